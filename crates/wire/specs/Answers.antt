@@ -1,0 +1,197 @@
+-- What the public calls answer and leave in lent memory, and document 01's numbers.
+-- Assumes nothing.
+use mathlib.Core.Bool.{Bool, true, false}
+use mathlib.Core.List.{List, [], _∷_, _++_}
+use Prim.Native.Nat.{ℕ, _+_, _/_, _%_}
+use lib.ListN.{length, drop}
+use lib.Dec.{leb, ltb, eqb}
+use Rattle.wire.specs.declared.Refusal.{Refusal}
+use Rattle.wire.specs.declared.Refusal.the-variants.{Trailer, Record, End, Varint, Bool as BadBool, Char, Utf8, Option as BadOption, Variant, Room, Values, Full}
+use Rattle.wire.specs.declared.Checked.{Checked}
+use Rattle.wire.specs.declared.Checked.the-variants.{Good, Bad}
+use Rattle.wire.specs.declared.Item.{Item}
+use Rattle.wire.specs.declared.Item.the-variants.{Took, Refused}
+use Rattle.wire.specs.declared.ReadAnswer.{ReadAnswer}
+use Rattle.wire.specs.declared.ReadAnswer.the-variants.{Done as Read, Refused as NotRead}
+use Rattle.wire.specs.declared.WriteAnswer.{WriteAnswer}
+use Rattle.wire.specs.declared.WriteAnswer.the-variants.{Done as Written, Refused as NotWritten}
+use Rattle.wire.specs.declared.TakeAnswer.{TakeAnswer}
+use Rattle.wire.specs.declared.TakeAnswer.the-variants.{Done as Taken, Refused as NotTaken}
+use Rattle.wire.specs.declared.Side.{Side}
+use Rattle.wire.specs.declared.Side.the-variants.{Old, New}
+use Rattle.wire.specs.declared.AskAnswer.{AskAnswer}
+use Rattle.wire.specs.declared.AskAnswer.the-variants.{Says, Refused as NotAsked}
+use Rattle.wire.specs.declared.FeedAnswer.{FeedAnswer}
+use Rattle.wire.specs.declared.FeedAnswer.the-variants.{Consumed, OverFull, BadFrame, Frame, BadState}
+use Rattle.wire.specs.Tests.{pick, given, both}
+use Rattle.wire.specs.Table.{isKind, kindOf, check, shapeOf}
+use Rattle.wire.specs.Values.{Entry}
+use Rattle.wire.specs.Reading.{head, front, Outcome, reached, refused, Run, read, fit}
+use Rattle.wire.specs.Writing.{Left, Wrote, wrote, misfit, write}
+use Rattle.wire.specs.Append.{appends}
+
+-- ---- document 01's numbers
+
+unfoldable pub refusalNumber : Refusal → ℕ
+refusalNumber Trailer = 1
+refusalNumber Record = 2
+refusalNumber End = 3
+refusalNumber Varint = 4
+refusalNumber BadBool = 5
+refusalNumber Char = 6
+refusalNumber Utf8 = 7
+refusalNumber BadOption = 8
+refusalNumber Variant = 9
+refusalNumber Room = 10
+refusalNumber Values = 11
+refusalNumber Full = 12
+
+unfoldable pub feedNumber : FeedAnswer → ℕ
+feedNumber Consumed = 20
+feedNumber OverFull = 21
+feedNumber BadFrame = 22
+feedNumber Frame = 23
+feedNumber BadState = 24
+
+-- an answer's number and place; 0 is done
+pub record Numbered : Type 0 where
+  pub number : ℕ
+  pub place : ℕ
+
+unfoldable pub numbered : Refusal → ℕ → Numbered
+numbered e p = record { number = refusalNumber e; place = p }
+
+unfoldable pub done : ℕ → Numbered
+done p = record { number = 0; place = p }
+
+unfoldable pub checkSays : Checked → Numbered
+checkSays (Good l) = done 0
+checkSays (Bad e i) = numbered e i
+
+unfoldable pub readSays : ReadAnswer → Numbered
+readSays (Read p n) = done p
+readSays (NotRead e p n) = numbered e p
+
+unfoldable pub writeSays : WriteAnswer → Numbered
+writeSays (Written p) = done p
+writeSays (NotWritten e p) = numbered e p
+
+unfoldable pub takeSays : TakeAnswer → Numbered
+takeSays (Taken a b p) = done p
+takeSays (NotTaken e p) = numbered e p
+
+unfoldable pub askSays : AskAnswer → Numbered
+askSays (Says y) = done 0
+askSays (NotAsked t e i) = numbered e i
+
+-- ---- entries as words
+
+abbrev pub wordsPer : ℕ
+wordsPer = 2
+
+unfoldable pub wordsOf : Entry → List ℕ
+wordsOf e = e .first ∷ e .second ∷ []
+
+unfoldable pub words : List Entry → List ℕ
+words [] = []
+words (e ∷ es) = wordsOf e ++ words es
+
+-- the entries of a value list, whose words are whole entries
+unfoldable pub entriesOf : List ℕ → List Entry
+entriesOf [] = []
+entriesOf (a ∷ []) = []
+entriesOf (a ∷ b ∷ s) = record { first = a; second = b; place = 0 } ∷ entriesOf s
+
+-- a store's room in entries
+unfoldable pub roomOf : List ℕ → ℕ
+roomOf store = length store / wordsPer
+
+-- the entries in front, and every later word as before
+unfoldable pub storeWith : List Entry → List ℕ → List ℕ
+storeWith es store = words es ++ drop (length (words es)) store
+
+-- ---- reading
+
+-- what a table makes of a message, with room for so many entries
+unfoldable pub readBy : Checked → List ℕ → ℕ → List ℕ → Run
+readBy (Good l) table room message = fit room (read (shapeOf table l) (front message))
+readBy (Bad e i) table room message = record { made = []; ends = refused e i }
+
+unfoldable pub reads : List ℕ → List ℕ → List ℕ → Run
+reads table message store = readBy (check table) table (roomOf store) message
+
+-- the answer of a run that made so many entries
+unfoldable pub readAnswer : Outcome → ℕ → ReadAnswer
+readAnswer (reached x) n = Read (x .place) n
+readAnswer (refused e p) n = NotRead e p n
+
+-- the unread bytes: none on a refusal, and none where the answer points beyond the message
+unfoldable pub restOf : List ℕ → ReadAnswer → List ℕ
+restOf message (Read p n) = drop p message
+restOf message (NotRead e p n) = []
+
+-- ---- one item of a kind that is 0 to 13 or 20 to 31
+
+unfoldable pub mayTake : ℕ → Bool
+mayTake k = pick (ltb k 14) true (both (leb 20 k) (isKind k))
+
+unfoldable pub taken : ℕ → Item → TakeAnswer
+taken p (Took a b n) = Taken a b (p + n)
+taken p (Refused e) = NotTaken e p
+
+unfoldable pub takes : ℕ → List ℕ → ℕ → TakeAnswer
+takes k message p =
+    pick (mayTake k)
+    (pick (leb p (length message)) (taken p (head (kindOf k) 0 p (drop p message))) (NotTaken End p))
+    (NotTaken Record 0)
+
+-- the place of the record after that: behind the item, or as it was
+unfoldable pub placeAfter : ℕ → TakeAnswer → ℕ
+placeAfter p (Taken a b q) = q
+placeAfter p (NotTaken e q) = p
+
+-- ---- writing
+
+-- the wire form, or the refusal and its place
+pub data Form : Type 0 where
+  form : List ℕ → Form
+  noForm : Refusal → ℕ → Form
+
+-- entries that are left over do not fit, and neither do bytes beyond the output's length
+unfoldable pub formOf : ℕ → List ℕ → (at : ℕ) → List Entry → Form
+formOf room s at [] = pick (leb (length s) room) (form s) (noForm Full 0)
+formOf room s at (e ∷ es) = noForm Values at
+
+unfoldable pub formed : ℕ → Wrote → Form
+formed room (wrote s x) = formOf room s (x .at) (x .entries)
+formed room (misfit i) = noForm Values i
+
+unfoldable pub writeBy : Checked → List ℕ → List ℕ → List ℕ → ℕ → Form
+writeBy (Good l) table ws pool room =
+    given (eqb (length ws % wordsPer) 0)
+    (λ _. formed room (write (shapeOf table l) pool (record { at = 0; entries = entriesOf ws })))
+    (noForm Values (length ws / wordsPer))
+writeBy (Bad e i) table ws pool room = noForm e i
+
+unfoldable pub writes : List ℕ → List ℕ → List ℕ → ℕ → Form
+writes table ws pool room = writeBy (check table) table ws pool room
+
+unfoldable pub writeAnswer : Form → WriteAnswer
+writeAnswer (form s) = Written (length s)
+writeAnswer (noForm e p) = NotWritten e p
+
+-- only the bytes written change
+unfoldable pub outWith : Form → List ℕ → List ℕ
+outWith (form s) out = s ++ drop (length s) out
+outWith (noForm e p) out = out
+
+-- ---- the append question
+
+-- yes or no of two good tables; the old table is refused before the new one
+unfoldable pub askBy : Checked → Checked → List ℕ → List ℕ → AskAnswer
+askBy (Good l) (Good m) old new = Says (appends (shapeOf old l) (shapeOf new m))
+askBy (Good l) (Bad e i) old new = NotAsked New e i
+askBy (Bad e i) c old new = NotAsked Old e i
+
+unfoldable pub asks : List ℕ → List ℕ → AskAnswer
+asks old new = askBy (check old) (check new) old new

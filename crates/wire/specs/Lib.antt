@@ -1,0 +1,12 @@
+pub mod Tests
+pub mod Shape
+pub mod Table
+pub mod Walk
+pub mod Values
+pub mod Numbers
+pub mod Text
+pub mod Reading
+pub mod Writing
+pub mod Append
+pub mod Frames
+pub mod Answers

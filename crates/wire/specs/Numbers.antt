@@ -1,0 +1,105 @@
+-- Varints, zigzag and fixed-size integers: how a number stands in bytes, and how its word stands for it.
+-- Assumes nothing.
+use mathlib.Core.Bool.{Bool, true}
+use mathlib.Core.List.{List, [], _∷_, reverse}
+use Prim.Native.Nat.{ℕ, zero, suc, _+_, _-_, _*_, _/_, _%_, _^_}
+use lib.ListN.{length, take}
+use lib.Dec.{ltb, leb, eqb}
+use Rattle.wire.specs.declared.Refusal.the-variants.{End, Varint}
+use Rattle.wire.specs.declared.Item.{Item}
+use Rattle.wire.specs.declared.Item.the-variants.{Took, Refused}
+use Rattle.wire.specs.Tests.{pick}
+use Rattle.wire.specs.Shape.{Width, w16, w32, w64, Order, le, be, Sign, signed, unsigned}
+
+-- ---- varints
+
+-- the most bytes of a varint, and the largest byte that may stand last there
+unfoldable pub most : Width → ℕ
+most w16 = 3
+most w32 = 5
+most w64 = 10
+
+unfoldable pub last : Width → ℕ
+last w16 = 3
+last w32 = 15
+last w64 = 1
+
+-- a byte whose high bit is set, in front of a varint: its low seven bits come lowest
+unfoldable pub low : ℕ → Item → Item
+low b (Took v w n) = Took (b % 128 + 128 * v) 0 (n + 1)
+low b (Refused e) = Refused e
+
+-- a varint of at most so many bytes, of which the last allowed is at most `top`
+unfoldable pub varintF : ℕ → ℕ → List ℕ → Item
+varintF zero top s = Refused Varint
+varintF (suc k) top [] = Refused End
+varintF (suc zero) top (b ∷ s) = pick (leb b top) (Took b 0 1) (Refused Varint)
+varintF (suc (suc k)) top (b ∷ s) = pick (ltb b 128) (Took b 0 1) (low b (varintF (suc k) top s))
+
+unfoldable pub varint : Width → List ℕ → Item
+varint w s = varintF (most w) (last w) s
+
+-- the shortest varint, of at most so many bytes
+unfoldable pub shortestF : ℕ → ℕ → List ℕ
+shortestF zero x = []
+shortestF (suc k) x = pick (ltb x 128) (x ∷ []) ((x % 128 + 128) ∷ shortestF k (x / 128))
+
+unfoldable pub shortest : ℕ → List ℕ
+shortest x = shortestF (most w64) x
+
+-- ---- words of signed numbers
+
+-- n bits as a word: x, or 2^64 + x below zero
+unfoldable pub signedWord : ℕ → ℕ → ℕ
+signedWord n x = pick (ltb x (2 ^ (n - 1))) x (2 ^ 64 - 2 ^ n + x)
+
+-- a word stands for a signed number of n bits
+unfoldable pub isSignedWord : ℕ → ℕ → Bool
+isSignedWord n a = pick (ltb a (2 ^ (n - 1))) true (leb (2 ^ 64 - 2 ^ (n - 1)) a)
+
+-- 2x for x at least 0, and -2x - 1 below
+unfoldable pub zigzag : ℕ → ℕ
+zigzag a = pick (ltb a (2 ^ 63)) (2 * a) (2 * (2 ^ 64 - a) - 1)
+
+unfoldable pub unzigzag : ℕ → ℕ
+unzigzag z = pick (eqb (z % 2) 0) (z / 2) (2 ^ 64 - (z + 1) / 2)
+
+-- a word of n bits, signed or not
+unfoldable pub word : Sign → ℕ → ℕ → ℕ
+word signed n x = signedWord n x
+word unsigned n x = x
+
+unfoldable pub isWord : Sign → ℕ → ℕ → Bool
+isWord signed n a = isSignedWord n a
+isWord unsigned n a = ltb a (2 ^ n)
+
+-- a word as a varint's number, and back
+unfoldable pub zigzagged : Sign → ℕ → ℕ
+zigzagged signed a = zigzag a
+zigzagged unsigned a = a
+
+unfoldable pub unzigzagged : Sign → ℕ → ℕ
+unzigzagged signed z = unzigzag z
+unzigzagged unsigned z = z
+
+unfoldable pub onFirst : (ℕ → ℕ) → Item → Item
+onFirst f (Took a b n) = Took (f a) b n
+onFirst f (Refused e) = Refused e
+
+-- ---- fixed-size numbers
+
+unfoldable pub little : List ℕ → ℕ
+little [] = 0
+little (b ∷ s) = b + 256 * little s
+
+unfoldable pub littleBytes : ℕ → ℕ → List ℕ
+littleBytes zero x = []
+littleBytes (suc n) x = x % 256 ∷ littleBytes n (x / 256)
+
+unfoldable pub inOrder : Order → List ℕ → List ℕ
+inOrder le s = s
+inOrder be s = reverse s
+
+-- n bytes, whose word is f of them
+unfoldable pub wordOf : ℕ → (List ℕ → ℕ) → List ℕ → Item
+wordOf n f s = pick (leb n (length s)) (Took (f (take n s)) 0 n) (Refused End)

@@ -10,3 +10,4 @@ pub mod Writing
 pub mod Append
 pub mod Frames
 pub mod Answers
+pub mod Cases

@@ -1,0 +1,186 @@
+-- Document 01's cases, and some of our own, as data: a call, and what it must answer and leave in lent memory.
+-- Assumes nothing.
+use mathlib.Core.Path.{_≡_}
+use mathlib.Core.Bool.{Bool, true, false}
+use mathlib.Core.List.{List, [], _∷_, _++_}
+use mathlib.Core.List as lists
+use Prim.Native.Nat.{ℕ, _+_}
+use lib.ListN.{length, replicate}
+use Rattle.wire.specs.declared.Checked.{Checked}
+use Rattle.wire.specs.declared.Checked.the-variants.{Good, Bad}
+use Rattle.wire.specs.declared.ReadAnswer.{ReadAnswer}
+use Rattle.wire.specs.declared.AskAnswer.{AskAnswer}
+use Rattle.wire.specs.declared.AskAnswer.the-variants.{Says, Refused as NotAsked}
+use Rattle.wire.specs.Table.{check, shapeOf}
+use Rattle.wire.specs.Values.{Value, number, content, Valued, whole, tooShort, unknown, values}
+use Rattle.wire.specs.Reading.{Run}
+use Rattle.wire.specs.Frames.{Fed, padded, feed}
+use Rattle.wire.specs.Answers.{feedNumber, Numbered, readSays, writeSays, takeSays, askSays, entriesOf, storeWith, reads, readAnswer, restOf, takes, Form, writes, writeAnswer, outWith, asks}
+
+-- ---- calls and answers
+
+pub data Call : Type 0 where
+  reading : (table message store : List ℕ) → Call
+  taking : (kind : ℕ) (message : List ℕ) (place : ℕ) → Call
+  writing : (table ws pool out : List ℕ) → Call
+  valuing : (table ws pool : List ℕ) → Call
+  asking : (old new : List ℕ) → Call
+  feeding : (array : List ℕ) (idx : ℕ) (chunk : List ℕ) → Call
+
+pub data Said : Type 0 where
+  read : (number place count : ℕ) (store rest : List ℕ) → Said
+  took : (number place : ℕ) → Said
+  wrote : (number place : ℕ) (out : List ℕ) → Said
+  are : Valued → Said
+  badTable : Said
+  asked : (number place : ℕ) (yes : Bool) → Said
+  fed : (number : ℕ) (message rest array : List ℕ) (idx : ℕ) → Said
+
+unfoldable pub readSaid : Run → ReadAnswer → List ℕ → List ℕ → Said
+readSaid r a message store = read (readSays a .number) (readSays a .place) (length (r .made)) (storeWith (r .made) store) (restOf message a)
+
+unfoldable pub readRun : Run → List ℕ → List ℕ → Said
+readRun r message store = readSaid r (readAnswer (r .ends) (length (r .made))) message store
+
+unfoldable pub wroteForm : Form → List ℕ → Said
+wroteForm f out = wrote (writeSays (writeAnswer f) .number) (writeSays (writeAnswer f) .place) (outWith f out)
+
+unfoldable pub valuesBy : Checked → List ℕ → List ℕ → List ℕ → Said
+valuesBy (Good l) table ws pool = are (values (shapeOf table l) pool (entriesOf ws))
+valuesBy (Bad e i) table ws pool = badTable
+
+unfoldable pub isYes : AskAnswer → Bool
+isYes (Says y) = y
+isYes (NotAsked t e i) = false
+
+unfoldable pub fedSaid : Fed → Said
+fedSaid f = fed (feedNumber (f .answer)) (f .message) (f .rest) (f .array) (f .idx)
+
+unfoldable pub answer : Call → Said
+answer (reading table message store) = readRun (reads table message store) message store
+answer (taking kind message place) = took (takeSays (takes kind message place) .number) (takeSays (takes kind message place) .place)
+answer (writing table ws pool out) = wroteForm (writes table ws pool (length out)) out
+answer (valuing table ws pool) = valuesBy (check table) table ws pool
+answer (asking old new) = asked (askSays (asks old new) .number) (askSays (asks old new) .place) (isYes (asks old new))
+answer (feeding array idx chunk) = fedSaid (feed array idx chunk)
+
+pub record Case : Type 0 where
+  pub call : Call
+  pub said : Said
+
+unfoldable pub case : Call → Said → Case
+case c s = record { call = c; said = s }
+
+-- each call of a list answers what the list says
+abbrev pub Hold : List Case → Type 0
+Hold cs = lists.map (λ (c : Case). answer (c .call)) cs ≡ lists.map (λ (c : Case). c .said) cs
+
+-- ---- tables
+
+-- T: a struct of a store (u32), a product (u64) and a count (i32)
+unfoldable pub tableT : List ℕ
+tableT = 0x07 ∷ 0x00 ∷ 0x00 ∷ 0x00 ∷ 0x00 ∷ 0x00 ∷ 0x08 ∷ 0x00 ∷ 0x00 ∷ 0x00 ∷ 0x00 ∷ 0x00 ∷ 0x03 ∷ 0x00 ∷ 0x00 ∷ 0x00 ∷ 0x00 ∷ 0x00 ∷ 0x12 ∷ 0x00 ∷ 0x00 ∷ 0x00 ∷ 0x03 ∷ 0x00 ∷ 0x00 ∷ 0x00 ∷ 0x01 ∷ 0x00 ∷ 0x02 ∷ 0x00 ∷ 0x06 ∷ 0x00 ∷ 0x1e ∷ 0x00 ∷ 0x04 ∷ 0x00 ∷ 0x03 ∷ 0x00 ∷ 0x53 ∷ 0x50 ∷ []
+
+-- records, a child list, how many nodes there are, and the root
+unfoldable pub tabled : (records children : List ℕ) (n root : ℕ) → List ℕ
+tabled records children n root =
+    records ++ (children ++ (length children ∷ 0 ∷ (length records + length children) ∷ 0 ∷ n ∷ 0 ∷ root ∷ 0 ∷ 0x53 ∷ 0x50 ∷ []))
+
+-- one node, of a kind without children
+unfoldable pub leafTable : ℕ → List ℕ
+leafTable k = tabled (k ∷ 0 ∷ 0 ∷ 0 ∷ 0 ∷ 0 ∷ []) [] 1 0
+
+-- the nodes of T, with a root of four fields
+unfoldable pub fourFields : (children : List ℕ) → List ℕ
+fourFields children = tabled (0x07 ∷ 0x00 ∷ 0x00 ∷ 0x00 ∷ 0x00 ∷ 0x00 ∷ 0x08 ∷ 0x00 ∷ 0x00 ∷ 0x00 ∷ 0x00 ∷ 0x00 ∷ 0x03 ∷ 0x00 ∷ 0x00 ∷ 0x00 ∷ 0x00 ∷ 0x00 ∷ 0x12 ∷ 0x00 ∷ 0x00 ∷ 0x00 ∷ 0x04 ∷ 0x00 ∷ []) children 4 3
+
+-- T with a u32 in front, and at the end
+unfoldable pub inFront : List ℕ
+inFront = fourFields (0x00 ∷ 0x00 ∷ 0x00 ∷ 0x00 ∷ 0x01 ∷ 0x00 ∷ 0x02 ∷ 0x00 ∷ [])
+
+unfoldable pub atEnd : List ℕ
+atEnd = fourFields (0x00 ∷ 0x00 ∷ 0x01 ∷ 0x00 ∷ 0x02 ∷ 0x00 ∷ 0x00 ∷ 0x00 ∷ [])
+
+-- a sequence of enums with one variant (u8), and with a second (u16) behind it or in front of it
+unfoldable pub oneVariant : List ℕ
+oneVariant = tabled (0x05 ∷ 0x00 ∷ 0x00 ∷ 0x00 ∷ 0x00 ∷ 0x00 ∷ 0x13 ∷ 0x00 ∷ 0x00 ∷ 0x00 ∷ 0x01 ∷ 0x00 ∷ 0x10 ∷ 0x00 ∷ 0x01 ∷ 0x00 ∷ 0x00 ∷ 0x00 ∷ []) (0x00 ∷ 0x00 ∷ []) 3 2
+
+unfoldable pub twoVariants : (children : List ℕ) → List ℕ
+twoVariants children = tabled (0x05 ∷ 0x00 ∷ 0x00 ∷ 0x00 ∷ 0x00 ∷ 0x00 ∷ 0x06 ∷ 0x00 ∷ 0x00 ∷ 0x00 ∷ 0x00 ∷ 0x00 ∷ 0x13 ∷ 0x00 ∷ 0x00 ∷ 0x00 ∷ 0x02 ∷ 0x00 ∷ 0x10 ∷ 0x00 ∷ 0x02 ∷ 0x00 ∷ 0x00 ∷ 0x00 ∷ []) children 4 3
+
+-- a struct that holds a struct of so many u8
+unfoldable pub nested : (fields : ℕ) → List ℕ
+nested fields = tabled (0x05 ∷ 0 ∷ 0 ∷ 0 ∷ 0 ∷ 0 ∷ 0x12 ∷ 0 ∷ 0 ∷ 0 ∷ fields ∷ 0 ∷ 0x12 ∷ 0 ∷ 2 ∷ 0 ∷ 1 ∷ 0 ∷ []) (0 ∷ 0 ∷ 0 ∷ 0 ∷ 1 ∷ 0 ∷ []) 3 2
+
+-- ---- the cases
+
+-- a store of nine words, and an output of four bytes
+unfoldable pub store : List ℕ
+store = replicate 9 7
+
+unfoldable pub out : List ℕ
+out = replicate 4 7
+
+-- a state's array
+unfoldable pub array : List ℕ
+array = replicate 256 9
+
+-- document 01's thirteen
+unfoldable pub cases : List Case
+cases =
+    case (reading tableT (0xac ∷ 0x02 ∷ 0x05 ∷ 0x03 ∷ []) store) (read 0 4 4 (0 ∷ 0 ∷ 300 ∷ 0 ∷ 5 ∷ 0 ∷ 18446744073709551614 ∷ 0 ∷ 7 ∷ []) [])
+    ∷ case (reading tableT (0xac ∷ 0x02 ∷ 0x05 ∷ 0x03 ∷ 0x07 ∷ []) store) (read 0 4 4 (0 ∷ 0 ∷ 300 ∷ 0 ∷ 5 ∷ 0 ∷ 18446744073709551614 ∷ 0 ∷ 7 ∷ []) (0x07 ∷ []))
+    ∷ case (reading tableT (0xac ∷ 0x02 ∷ 0x05 ∷ []) store) (read 3 3 3 (0 ∷ 0 ∷ 300 ∷ 0 ∷ 5 ∷ 0 ∷ 7 ∷ 7 ∷ 7 ∷ []) [])
+    ∷ case (reading (leafTable 6) (0xff ∷ 0xff ∷ 0x03 ∷ []) store) (read 0 3 1 (65535 ∷ 0 ∷ 7 ∷ 7 ∷ 7 ∷ 7 ∷ 7 ∷ 7 ∷ 7 ∷ []) [])
+    ∷ case (reading (leafTable 6) (0x80 ∷ 0x80 ∷ 0x04 ∷ []) store) (read 4 0 0 (7 ∷ 7 ∷ 7 ∷ 7 ∷ 7 ∷ 7 ∷ 7 ∷ 7 ∷ 7 ∷ []) [])
+    ∷ case (reading (leafTable 6) (0x80 ∷ 0x00 ∷ []) store) (read 0 2 1 (0 ∷ 0 ∷ 7 ∷ 7 ∷ 7 ∷ 7 ∷ 7 ∷ 7 ∷ 7 ∷ []) [])
+    ∷ case (reading (leafTable 6) (0x80 ∷ 0x80 ∷ []) store) (read 3 0 0 (7 ∷ 7 ∷ 7 ∷ 7 ∷ 7 ∷ 7 ∷ 7 ∷ 7 ∷ 7 ∷ []) [])
+    ∷ case (writing (leafTable 2) (18446744073709518848 ∷ 0 ∷ []) [] out) (wrote 0 3 (255 ∷ 255 ∷ 3 ∷ 7 ∷ []))
+    ∷ case (reading (leafTable 11) (0x02 ∷ 0x61 ∷ 0x62 ∷ []) store) (read 0 3 1 (97 ∷ 0 ∷ 7 ∷ 7 ∷ 7 ∷ 7 ∷ 7 ∷ 7 ∷ 7 ∷ []) [])
+    ∷ case (reading (leafTable 11) (0x05 ∷ []) store) (read 6 0 0 (7 ∷ 7 ∷ 7 ∷ 7 ∷ 7 ∷ 7 ∷ 7 ∷ 7 ∷ 7 ∷ []) [])
+    ∷ case (reading (leafTable 11) (0x00 ∷ []) store) (read 6 0 0 (7 ∷ 7 ∷ 7 ∷ 7 ∷ 7 ∷ 7 ∷ 7 ∷ 7 ∷ 7 ∷ []) [])
+    ∷ case (feeding array 250 (1 ∷ 2 ∷ 3 ∷ 4 ∷ 5 ∷ 6 ∷ 7 ∷ 8 ∷ 9 ∷ 10 ∷ [])) (fed 21 [] (7 ∷ 8 ∷ 9 ∷ 10 ∷ []) array 0)
+    ∷ case (feeding array 0 (0x03 ∷ 0x11 ∷ 0x22 ∷ 0x02 ∷ 0x33 ∷ 0x00 ∷ [])) (fed 23 (0x11 ∷ 0x22 ∷ 0x00 ∷ 0x33 ∷ []) [] array 0)
+    ∷ []
+
+-- our own: mistakes to keep out, lent memory, the accident of a field in front, and what appends
+unfoldable pub ours : List Case
+ours =
+    case (reading (leafTable 11) (0x03 ∷ 0x61 ∷ 0x62 ∷ 0xff ∷ []) store) (read 6 0 0 (7 ∷ 7 ∷ 7 ∷ 7 ∷ 7 ∷ 7 ∷ 7 ∷ 7 ∷ 7 ∷ []) [])
+    ∷ case (reading (leafTable 11) (0x03 ∷ 0xed ∷ 0xa0 ∷ 0x80 ∷ []) store) (read 6 0 0 (7 ∷ 7 ∷ 7 ∷ 7 ∷ 7 ∷ 7 ∷ 7 ∷ 7 ∷ 7 ∷ []) [])
+    ∷ case (reading (leafTable 12) (0x02 ∷ 0xc3 ∷ 0xa9 ∷ 0x41 ∷ []) store) (read 0 3 1 (1 ∷ 2 ∷ 7 ∷ 7 ∷ 7 ∷ 7 ∷ 7 ∷ 7 ∷ 7 ∷ []) (0x41 ∷ []))
+    ∷ case (reading (leafTable 12) (0x01 ∷ 0xc3 ∷ []) store) (read 7 0 0 (7 ∷ 7 ∷ 7 ∷ 7 ∷ 7 ∷ 7 ∷ 7 ∷ 7 ∷ 7 ∷ []) [])
+    ∷ case (reading (leafTable 13) (0xff ∷ 0xff ∷ 0xff ∷ 0xff ∷ 0xff ∷ 0xff ∷ 0xff ∷ 0xff ∷ 0xff ∷ 0x01 ∷ []) store) (read 3 0 0 (7 ∷ 7 ∷ 7 ∷ 7 ∷ 7 ∷ 7 ∷ 7 ∷ 7 ∷ 7 ∷ []) [])
+    ∷ case (reading (tabled (0x0e ∷ 0x00 ∷ 0x00 ∷ 0x00 ∷ 0x00 ∷ 0x00 ∷ 0x10 ∷ 0x00 ∷ 0x00 ∷ 0x00 ∷ 0x00 ∷ 0x00 ∷ []) [] 2 1) (0xff ∷ 0xff ∷ 0xff ∷ 0xff ∷ 0xff ∷ 0xff ∷ 0xff ∷ 0xff ∷ 0xff ∷ 0x01 ∷ []) store) (read 10 10 4 (18446744073709551615 ∷ 0 ∷ 0 ∷ 0 ∷ 0 ∷ 0 ∷ 0 ∷ 0 ∷ 7 ∷ []) [])
+    ∷ case (reading (leafTable 0) (0x07 ∷ []) (7 ∷ [])) (read 10 0 0 (7 ∷ []) [])
+    ∷ case (reading (leafTable 0) (0x07 ∷ []) store) (read 5 0 0 (7 ∷ 7 ∷ 7 ∷ 7 ∷ 7 ∷ 7 ∷ 7 ∷ 7 ∷ 7 ∷ []) [])
+    ∷ case (reading (leafTable 26) (0xff ∷ 0xfe ∷ 0x01 ∷ []) store) (read 0 2 1 (18446744073709551614 ∷ 0 ∷ 7 ∷ 7 ∷ 7 ∷ 7 ∷ 7 ∷ 7 ∷ 7 ∷ []) (0x01 ∷ []))
+    ∷ case (reading (0x01 ∷ 0x02 ∷ []) (0x07 ∷ []) store) (read 1 0 0 store [])
+    ∷ case (reading (leafTable 32) (0x07 ∷ []) store) (read 2 0 0 store [])
+    ∷ case (reading tableT (0x07 ∷ 0xac ∷ 0x02 ∷ 0x05 ∷ 0x03 ∷ []) store) (read 0 4 4 (0 ∷ 0 ∷ 7 ∷ 0 ∷ 300 ∷ 0 ∷ 18446744073709551613 ∷ 0 ∷ 7 ∷ []) (0x03 ∷ []))
+    ∷ case (asking tableT inFront) (asked 0 0 false)
+    ∷ case (asking tableT atEnd) (asked 0 0 true)
+    ∷ case (asking (nested 1) (nested 1)) (asked 0 0 true)
+    ∷ case (asking (nested 1) (nested 2)) (asked 0 0 false)
+    ∷ case (asking oneVariant (twoVariants (0 ∷ 0 ∷ 1 ∷ 0 ∷ []))) (asked 0 0 true)
+    ∷ case (asking oneVariant (twoVariants (1 ∷ 0 ∷ 0 ∷ 0 ∷ []))) (asked 0 0 false)
+    ∷ case (asking tableT (leafTable 32)) (asked 2 0 false)
+    ∷ case (valuing (leafTable 12) (1 ∷ 2 ∷ []) (0x61 ∷ 0x62 ∷ 0x63 ∷ [])) (are (whole (content (0x62 ∷ 0x63 ∷ []) ∷ [])))
+    ∷ case (valuing oneVariant (2 ∷ 0 ∷ 0 ∷ 0 ∷ 5 ∷ 0 ∷ []) []) (are (tooShort (number 2 0 ∷ number 0 0 ∷ number 5 0 ∷ [])))
+    ∷ case (valuing oneVariant (1 ∷ 0 ∷ 1 ∷ 0 ∷ 5 ∷ 0 ∷ []) []) (are (unknown (number 1 0 ∷ [])))
+    ∷ case (writing (leafTable 2) (1 ∷ 1 ∷ []) [] out) (wrote 11 0 out)
+    ∷ case (writing (leafTable 2) (1 ∷ 0 ∷ 0 ∷ []) [] out) (wrote 11 1 out)
+    ∷ case (writing (leafTable 2) (1 ∷ 0 ∷ 0 ∷ 0 ∷ []) [] out) (wrote 11 1 out)
+    ∷ case (writing tableT (0 ∷ 0 ∷ 1 ∷ 0 ∷ []) [] out) (wrote 11 2 out)
+    ∷ case (writing (leafTable 8) (34359738368 ∷ 0 ∷ []) [] out) (wrote 12 0 out)
+    ∷ case (writing (leafTable 12) (3 ∷ 0 ∷ []) (0x61 ∷ 0x62 ∷ []) out) (wrote 11 0 out)
+    ∷ case (feeding array 257 (0 ∷ [])) (fed 24 [] (0 ∷ []) array 257)
+    ∷ case (feeding array 0 (0 ∷ [])) (fed 23 [] [] array 0)
+    ∷ case (feeding array 0 (3 ∷ 1 ∷ 0 ∷ 5 ∷ [])) (fed 22 [] (5 ∷ []) array 0)
+    ∷ case (feeding array 254 (1 ∷ 1 ∷ [])) (fed 20 [] [] (replicate 254 9 ++ (1 ∷ 1 ∷ [])) 256)
+    ∷ case (feeding array 255 (1 ∷ 0 ∷ 5 ∷ [])) (fed 21 [] (5 ∷ []) array 0)
+    ∷ case (taking 14 [] 5) (took 2 0)
+    ∷ case (taking 6 (0x05 ∷ 0x80 ∷ []) 1) (took 3 1)
+    ∷ case (taking 6 (0x05 ∷ 0x81 ∷ 0x01 ∷ []) 1) (took 0 3)
+    ∷ case (taking 5 (0x05 ∷ []) 2) (took 3 2)
+    ∷ []

@@ -9,13 +9,15 @@ use lib.ListN.{length, replicate}
 use Rattle.wire.specs.declared.Checked.{Checked}
 use Rattle.wire.specs.declared.Checked.the-variants.{Good, Bad}
 use Rattle.wire.specs.declared.ReadAnswer.{ReadAnswer}
+use Rattle.wire.specs.declared.TakeAnswer.{TakeAnswer}
+use Rattle.wire.specs.declared.TakeAnswer.the-variants.{Done as Taken, Refused as NotTaken}
 use Rattle.wire.specs.declared.AskAnswer.{AskAnswer}
 use Rattle.wire.specs.declared.AskAnswer.the-variants.{Says, Refused as NotAsked}
 use Rattle.wire.specs.Table.{check, shapeOf}
 use Rattle.wire.specs.Values.{Value, number, content, Valued, whole, tooShort, unknown, values}
 use Rattle.wire.specs.Reading.{Run}
 use Rattle.wire.specs.Frames.{Fed, padded, feed}
-use Rattle.wire.specs.Answers.{feedNumber, Numbered, readSays, writeSays, takeSays, askSays, entriesOf, storeWith, reads, readAnswer, restOf, takes, Form, writes, writeAnswer, outWith, asks}
+use Rattle.wire.specs.Answers.{refusalNumber, feedNumber, Numbered, readSays, writeSays, askSays, entriesOf, storeWith, reads, readAnswer, restOf, takes, placeAfter, Form, writes, writeAnswer, outWith, asks}
 
 -- ---- calls and answers
 
@@ -29,7 +31,7 @@ pub data Call : Type 0 where
 
 pub data Said : Type 0 where
   read : (number place count : ℕ) (store rest : List ℕ) → Said
-  took : (number place : ℕ) → Said
+  took : (number place first second after : ℕ) → Said
   wrote : (number place : ℕ) (out : List ℕ) → Said
   are : Valued → Said
   badTable : Said
@@ -41,6 +43,11 @@ readSaid r a message store = read (readSays a .number) (readSays a .place) (leng
 
 unfoldable pub readRun : Run → List ℕ → List ℕ → Said
 readRun r message store = readSaid r (readAnswer (r .ends) (length (r .made))) message store
+
+-- the answer, the entry's words, and the record's place behind it
+unfoldable pub tookSaid : ℕ → TakeAnswer → Said
+tookSaid p (Taken a b q) = took 0 q a b (placeAfter p (Taken a b q))
+tookSaid p (NotTaken e q) = took (refusalNumber e) q 0 0 (placeAfter p (NotTaken e q))
 
 unfoldable pub wroteForm : Form → List ℕ → Said
 wroteForm f out = wrote (writeSays (writeAnswer f) .number) (writeSays (writeAnswer f) .place) (outWith f out)
@@ -58,7 +65,7 @@ fedSaid f = fed (feedNumber (f .answer)) (f .message) (f .rest) (f .array) (f .i
 
 unfoldable pub answer : Call → Said
 answer (reading table message store) = readRun (reads table message store) message store
-answer (taking kind message place) = took (takeSays (takes kind message place) .number) (takeSays (takes kind message place) .place)
+answer (taking kind message place) = tookSaid place (takes kind message place)
 answer (writing table ws pool out) = wroteForm (writes table ws pool (length out)) out
 answer (valuing table ws pool) = valuesBy (check table) table ws pool
 answer (asking old new) = asked (askSays (asks old new) .number) (askSays (asks old new) .place) (isYes (asks old new))
@@ -79,7 +86,13 @@ Hold cs = lists.map (λ (c : Case). answer (c .call)) cs ≡ lists.map (λ (c : 
 
 -- T: a struct of a store (u32), a product (u64) and a count (i32)
 unfoldable pub tableT : List ℕ
-tableT = 0x07 ∷ 0x00 ∷ 0x00 ∷ 0x00 ∷ 0x00 ∷ 0x00 ∷ 0x08 ∷ 0x00 ∷ 0x00 ∷ 0x00 ∷ 0x00 ∷ 0x00 ∷ 0x03 ∷ 0x00 ∷ 0x00 ∷ 0x00 ∷ 0x00 ∷ 0x00 ∷ 0x12 ∷ 0x00 ∷ 0x00 ∷ 0x00 ∷ 0x03 ∷ 0x00 ∷ 0x00 ∷ 0x00 ∷ 0x01 ∷ 0x00 ∷ 0x02 ∷ 0x00 ∷ 0x06 ∷ 0x00 ∷ 0x1e ∷ 0x00 ∷ 0x04 ∷ 0x00 ∷ 0x03 ∷ 0x00 ∷ 0x53 ∷ 0x50 ∷ []
+tableT =
+    0x07 ∷ 0x00 ∷ 0x00 ∷ 0x00 ∷ 0x00 ∷ 0x00
+    ∷ 0x08 ∷ 0x00 ∷ 0x00 ∷ 0x00 ∷ 0x00 ∷ 0x00
+    ∷ 0x03 ∷ 0x00 ∷ 0x00 ∷ 0x00 ∷ 0x00 ∷ 0x00
+    ∷ 0x12 ∷ 0x00 ∷ 0x00 ∷ 0x00 ∷ 0x03 ∷ 0x00
+    ∷ 0x00 ∷ 0x00 ∷ 0x01 ∷ 0x00 ∷ 0x02 ∷ 0x00
+    ∷ 0x06 ∷ 0x00 ∷ 0x1e ∷ 0x00 ∷ 0x04 ∷ 0x00 ∷ 0x03 ∷ 0x00 ∷ 0x53 ∷ 0x50 ∷ []
 
 -- records, a child list, how many nodes there are, and the root
 unfoldable pub tabled : (records children : List ℕ) (n root : ℕ) → List ℕ
@@ -179,8 +192,8 @@ ours =
     ∷ case (feeding array 0 (3 ∷ 1 ∷ 0 ∷ 5 ∷ [])) (fed 22 [] (5 ∷ []) array 0)
     ∷ case (feeding array 254 (1 ∷ 1 ∷ [])) (fed 20 [] [] (replicate 254 9 ++ (1 ∷ 1 ∷ [])) 256)
     ∷ case (feeding array 255 (1 ∷ 0 ∷ 5 ∷ [])) (fed 21 [] (5 ∷ []) array 0)
-    ∷ case (taking 14 [] 5) (took 2 0)
-    ∷ case (taking 6 (0x05 ∷ 0x80 ∷ []) 1) (took 3 1)
-    ∷ case (taking 6 (0x05 ∷ 0x81 ∷ 0x01 ∷ []) 1) (took 0 3)
-    ∷ case (taking 5 (0x05 ∷ []) 2) (took 3 2)
+    ∷ case (taking 14 [] 5) (took 2 0 0 0 5)
+    ∷ case (taking 6 (0x05 ∷ 0x80 ∷ []) 1) (took 3 1 0 0 1)
+    ∷ case (taking 6 (0x05 ∷ 0x81 ∷ 0x01 ∷ []) 1) (took 0 3 129 0 3)
+    ∷ case (taking 5 (0x05 ∷ []) 2) (took 3 2 0 0 2)
     ∷ []

@@ -1,0 +1,45 @@
+-- How many values the varints of a width have and when they all fit a word, and what one that was read is known to be.
+-- Assumes nothing.
+use mathlib.Core.Path.{_≡_}
+use mathlib.Core.List.{List}
+use Prim.Native.Nat.{ℕ, zero, suc, _+_, _*_, _^_, _<_, _≤_}
+use lib.ListN.{length, getD}
+use Rattle.wire.specs.declared.Item.{Item}
+use Rattle.wire.specs.declared.Item.the-variants.{Took, Refused}
+
+-- ---- lists of bytes and of words
+
+abbrev pub AreBelow : ℕ → List ℕ → Type 0
+AreBelow limit s = (i : ℕ) → getD s i 0 < limit
+
+abbrev pub AreBytes : List ℕ → Type 0
+AreBytes s = AreBelow 256 s
+
+abbrev pub AreWords : List ℕ → Type 0
+AreWords ws = AreBelow (2 ^ 64) ws
+
+-- ---- varints of at most so many bytes, of which the last allowed is at most `top`
+
+-- each value is below it
+unfoldable pub span : ℕ → ℕ → ℕ
+span zero top = 0
+span (suc zero) top = top + 1
+span (suc (suc k)) top = 128 * span (suc k) top
+
+pub record Good (most top : ℕ) : Type 0 where
+  pub some : 0 < most
+  pub few : most ≤ 10
+  pub low : 0 < top
+  pub high : top < 128
+  pub fits : span most top ≤ 2 ^ 64
+
+-- a number below the limit that n bytes at the front of s were read as
+pub record Taken (limit : ℕ) (s : List ℕ) (v b n : ℕ) : Type 0 where
+  pub small : v < limit
+  pub single : b ≡ 0
+  pub some : 0 < n
+  pub within : n ≤ length s
+
+abbrev pub InRange : ℕ → List ℕ → Item → Type 0
+InRange limit s (Took v b n) = Taken limit s v b n
+InRange limit s (Refused e) = Unit {0}

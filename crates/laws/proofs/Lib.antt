@@ -1,2 +1,4 @@
 -- The proofs of what specs/ states.
 pub mod Walks
+pub mod Known
+pub mod Bounds

@@ -2,3 +2,4 @@
 pub mod Walks
 pub mod Known
 pub mod Bounds
+pub mod Runs

@@ -3,3 +3,5 @@ pub mod Walks
 pub mod Known
 pub mod Bounds
 pub mod Runs
+pub mod Beside
+pub mod Longer

@@ -5,3 +5,5 @@ pub mod Bounds
 pub mod Runs
 pub mod Beside
 pub mod Longer
+pub mod Splits
+pub mod Numbering

@@ -7,3 +7,4 @@ pub mod Beside
 pub mod Longer
 pub mod Splits
 pub mod Numbering
+pub mod Tables

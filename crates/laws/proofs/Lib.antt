@@ -8,3 +8,4 @@ pub mod Longer
 pub mod Splits
 pub mod Numbering
 pub mod Tables
+pub mod Children

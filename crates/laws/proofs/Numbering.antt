@@ -9,9 +9,10 @@ use native.Mathlib.Omega.{arith}
 use lib.ListN.{length, getD}
 use lib.Dec.{eqb}
 use borrow.Author.Tests.{ltb-true, eq-eqb, ne-eqb, not-true}
-use Rattle.wire.specs.Tests.{both, decided}
+use Rattle.wire.specs.Tests.{pick, both, decided}
 use Rattle.wire.specs.Shape.{unit, Kind, plain, sameKind}
 use Rattle.wire.specs.Table.{kinds, isKind, kindOf}
+use Rattle.wire.specs.Append.{isOpen, isOpenRoot}
 use Rattle.laws.proofs.Splits.{by-test, by-lt, by-eq, not-both, both-left, both-right}
 
 -- ---- the same kind
@@ -78,3 +79,12 @@ pub same-number : (i j : ℕ) → isKind i ≡ true → isKind j ≡ true → sa
 same-number i j h k =
     by-eq i j (λ e. rw e (kind-itself (kindOf j)) ∙ sym (eq-eqb i j e))
     (λ ne. by-test (sameKind (kindOf i) (kindOf j)) (λ s. absurd (ne (one-number i j (kind-below i h) (kind-below j k) (same-kind _ _ s)))) (λ s. s ∙ sym (ne-eqb i j ne)))
+
+-- the kinds in which more may follow, by their numbers
+pub open-number : (i : ℕ) → isKind i ≡ true → isOpen (kindOf i) ≡ eqb i 19
+unfolding isOpen kindOf kinds isKind
+open-number i h = same-number i 19 h refl
+
+pub root-number : (i : ℕ) → isKind i ≡ true → isOpenRoot (kindOf i) ≡ pick (eqb i 18) true (eqb i 19)
+unfolding isOpenRoot kindOf kinds isKind
+root-number i h = rw (same-number i 18 h refl, open-number i h)

@@ -1,8 +1,8 @@
 -- A walk over a node of a good table, and two such nodes compared: one step, in the table's own numbers.
 -- Assumes nothing.
-use mathlib.Core.Path.{_≡_, refl, sym, ap, ap₂, _∙_}
+use mathlib.Core.Path.{_≡_, refl, sym, ap, _∙_}
 use mathlib.Core.Bool.{Bool, true, false}
-use mathlib.Core.List.{List, [], _∷_}
+use mathlib.Core.List.{List, []}
 use Prim.Native.Nat.{ℕ, zero, suc, _+_, _-_, _*_, _≤_, _<_}
 use native.Mathlib.Nat.{add-zero, not-suc-le-zero}
 use native.Mathlib.Numerals.{add-one}
@@ -19,7 +19,7 @@ use Rattle.wire.specs.Append.{isOpen, matches, firsts, isOpenRoot, appends}
 use Rattle.wire.specs.Reading.{Spot, refused, head, readItem, reading, read, fit}
 use Rattle.laws.specs.Steps.{row}
 use Rattle.laws.specs.Tables.{nodeKind, nodeFirst, nodeCount, nodeShape, nodeShapes, GoodNode}
-use Rattle.laws.proofs.Splits.{both-left, both-right, not-both}
+use Rattle.laws.proofs.Splits.{both-right, not-both}
 use Rattle.laws.proofs.Runs.{fit-item, fit-none}
 use Rattle.laws.proofs.Numbering.{same-number}
 use Rattle.laws.proofs.Tables.{next-place}

@@ -1,23 +1,21 @@
 -- A table whose check is good has every node good, and its shape no longer depends on the count that its definition recurses on.
 -- Assumes nothing.
-use mathlib.Core.Path.{_≡_, refl, ap, ap₂, _∙_}
+use mathlib.Core.Path.{_≡_, refl, ap, ap₂}
 use mathlib.Core.Bool.{Bool, true, false, false≢true}
 use mathlib.Core.List.{List}
 use Prim.Native.Nat.{ℕ, zero, suc, _+_, _-_, _*_, _/_, _%_, _≤_, _<_}
 use native.Mathlib.Nat.{zero-add, add-zero, not-suc-le-zero}
 use native.Mathlib.Omega.{arith}
 use lib.ListN.{length}
-use lib.Dec.{leb, ltb, eqb}
+use lib.Dec.{leb, eqb}
 use borrow.Author.Tests.{ltb-true, leb-true, eqb-true}
 use Rattle.wire.specs.declared.Refusal.{Refusal}
-use Rattle.wire.specs.declared.Refusal.the-variants.{Trailer, Record}
 use Rattle.wire.specs.declared.Layout.{Layout}
-use Rattle.wire.specs.declared.Checked.{Checked}
 use Rattle.wire.specs.declared.Checked.the-variants.{Good, Bad}
-use Rattle.wire.specs.Tests.{pick, given, both}
+use Rattle.wire.specs.Tests.{given, both}
 use Rattle.wire.specs.Shape.{Kind, plain, pooled, option, sequence, map, struct, enum, Shape, node, more}
 use Rattle.wire.specs.Table.{u16At, layoutAt, goodNumbers, goodTrailer, isKind, Node, nodeAt, recordOf, firstChild, childCount, below, goodPlaces, goodKind, goodNode, checkFrom, checkAt, check, shapesAt, shapeBy, shapeF, shapeOf}
-use Rattle.laws.specs.Tables.{nodeKind, nodeFirst, nodeCount, nodeShape, nodeShapes, GoodNode, GoodTable}
+use Rattle.laws.specs.Tables.{nodeKind, nodeFirst, nodeCount, nodeShape, GoodNode, GoodTable}
 use Rattle.laws.proofs.Splits.{by-eq, both-left, both-right}
 
 both-true : {a b : Bool} → both a b ≡ true → (a ≡ true) × (b ≡ true)

@@ -1,2 +1,5 @@
 -- The proofs of what specs/ states.
+pub mod Told
 pub mod OldNew
+pub mod Begin
+pub mod NeverAnother

@@ -2,12 +2,11 @@
 -- Assumes nothing.
 use mathlib.Core.Path.{_≡_, refl, sym, ap, _∙_}
 use mathlib.Core.Bool.{Bool, true, false}
-use mathlib.Core.List.{List, [], _∷_, _++_, map-append, append-nil, append-assoc}
+use mathlib.Core.List.{List, [], _∷_, _++_, append-nil, append-assoc}
 use mathlib.Core.Option.{some}
 use Prim.Native.Nat.{ℕ, _≤_}
 use native.Mathlib.Nat.{zero-add}
 use native.Mathlib.Omega.{arith}
-use lib.ListN.{length, length-append}
 use lib.Dec.{ltb}
 use Rattle.wire.specs.declared.Refusal.{Refusal}
 use Rattle.wire.specs.declared.Refusal.the-variants.{Variant}
@@ -16,16 +15,17 @@ use Rattle.wire.specs.declared.Item.the-variants.{Took, Refused}
 use Rattle.wire.specs.Tests.{pick, given}
 use Rattle.wire.specs.Shape.{w32, Kind, plain, pooled, option, sequence, map, struct, enum, Shapes}
 use Rattle.wire.specs.Walk.{following, isKnown, Walk}
-use Rattle.wire.specs.Values.{Entry, Tag, Told, kept, lacks, short, ahead, tellNothing, tellOn, tellThen, tellItem, telling, tell}
+use Rattle.wire.specs.Values.{Entry, Tag, Told, kept, lacks, ahead, tellNothing, tellOn, tellThen, tellItem, telling, tell}
 use Rattle.wire.specs.Numbers.{varint}
-use Rattle.wire.specs.Reading.{known, head, Spot, front, Outcome, reached, refused, Run, behind, readNothing, readOn, readThen, past, enter, readItem, reading, read, fit}
-use Rattle.laws.specs.Steps.{row, Law, Appending, Every}
+use Rattle.wire.specs.Reading.{known, head, Spot, front, Outcome, reached, refused, Run, behind, readNothing, readOn, readThen, past, enter, readItem, reading, read}
+use Rattle.laws.specs.Steps.{row, Law, Appending}
 use Rattle.laws.specs.Bounds.{start, Stays, reaches}
-use Rattle.laws.proofs.Walks.{walk-law, appends-law, matches-refl, every}
+use Rattle.laws.proofs.Walks.{walk-law, appends-law, matches-refl}
 use Rattle.laws.proofs.Known.{head-known}
 use Rattle.laws.proofs.Bounds.{read-stays, row-stays}
-use Rattle.laws.proofs.Runs.{then-nothing, within-reached, within-refused, fit-reached}
-use Rattle.promises.specs.OldNew.{entries, seen, OldReads, OldReadsWithin, over, TellsAll, OwnTold, MatchingWhole}
+use Rattle.laws.proofs.Runs.{then-nothing}
+use Rattle.promises.specs.OldNew.{entries, seen, OldReads, OwnTold, MatchingWhole}
+use Rattle.promises.proofs.Told.{entries-append, told-nothing}
 
 -- ---- the relation
 
@@ -47,10 +47,6 @@ unfolding tellNothing readNothing entries
 keeps-nothing = record { tells = λ x. told (λ rest. whole [] refl refl) }
 
 -- ---- one after the other
-
-pub entries-append : (ts us : List Tag) → entries (ts ++ us) ≡ entries ts ++ entries us
-unfolding entries
-entries-append ts us = map-append _ ts us
 
 same-ahead : {es fs rest made gs : List Entry} {z : Spot} {w : Told} {o : Outcome} (ts : List Tag)
     → entries ts ≡ es → made ≡ es → Same fs rest z gs w o → Same (es ++ fs) rest z (made ++ gs) (ahead ts w) o
@@ -226,13 +222,6 @@ begins-whole {w} h = record { begins = λ x. go (h .tells x) }
     go Tells.silent = Begun.silent
     go {es} (told {y} s) = begun {y = y} (end (rw (append-nil es) at (s [])))
 
--- nothing behind a step is the step
-pub told-nothing : (t : Told) → tellOn t tellNothing ≡ t
-unfolding tellOn tellNothing ahead
-told-nothing (kept ts rest) = rw (append-nil ts)
-told-nothing (lacks ts e rest) = refl
-told-nothing (short ts) = refl
-
 begins-once : {w : List Entry → Told} {f g : Spot → Run} → Begins w f g
     → Begins (tellThen w tellNothing) (readThen f readNothing) (readThen g readNothing)
 unfolding tellThen
@@ -270,65 +259,3 @@ old-reads old new a message es end e = go (rw e at (appends-law keeps appending 
 
     go : Begun (tell old) (read old (front message)) es (reached end) → seen message (end .place) (tell old es) ≡ some (read old (front message))
     go (begun p) = ended p (read-stays old (front message))
-
--- ---- what is told is all there is
-
-record Splits (f : List Entry → Told) : Type 0 where
-  whole : (es : List Entry) → over (f es) ≡ es
-
-over-ahead : (ts : List Tag) (t : Told) → over (ahead ts t) ≡ entries ts ++ over t
-unfolding over ahead
-over-ahead ts (kept us rest) = rw (entries-append ts us) (append-assoc (entries ts) (entries us) rest)
-over-ahead ts (lacks us e rest) = rw (entries-append ts us) (append-assoc (entries ts) (entries us) (e ∷ rest))
-over-ahead ts (short us) = entries-append ts us
-
-splits-nothing : Splits tellNothing
-unfolding tellNothing over entries
-splits-nothing = record { whole = λ es. refl }
-
-splits-then : {f g : List Entry → Told} → Splits f → Splits g → Splits (tellThen f g)
-unfolding tellThen tellOn over
-splits-then {f} {g} h k = record { whole = λ es. go (f es) ∙ h .whole es }
-  where
-    go : (t : Told) → over (tellOn t g) ≡ over t
-    go (kept ts rest) = over-ahead ts (g rest) ∙ ap (λ l. entries ts ++ l) (k .whole rest)
-    go (lacks ts e rest) = refl
-    go (short ts) = refl
-
-splits-item : {f : ℕ → List Entry → Told} (k : Kind) (n : ℕ) → ((a : ℕ) → Splits (f a)) → Splits (tellItem k n f)
-unfolding tellItem over given entries
-splits-item {f} k n h = record { whole = go }
-  where
-    entry : (e : Entry) (es : List Entry) (x : Bool)
-        → over (given x (λ _. ahead (record { kind = k; entry = e } ∷ []) (f (e .first) es)) (lacks [] e es)) ≡ e ∷ es
-    entry e es true = over-ahead (record { kind = k; entry = e } ∷ []) (f (e .first) es) ∙ ap {B = List Entry} (λ l. e ∷ l) (h (e .first) .whole es)
-    entry e es false = refl
-
-    go : (es : List Entry) → over (tellItem k n f es) ≡ es
-    go [] = refl
-    go (e ∷ es) = entry e es (isKnown (following k (e .first)) n)
-
-splits : Every (λ (i : Unit {0}). telling) (λ f. Splits (f tt))
-splits = record { none = splits-nothing; both = splits-then; made = λ f k n. splits-item k n }
-
-pub tells-all : TellsAll
-unfolding tell
-tells-all t = every splits t .whole
-
--- ---- a store
-
-fit-same : (room : ℕ) {o r : Run} → fit room o ≡ o → some o ≡ some r → some o ≡ some (fit room r)
-fit-same room f e = cc
-
--- what is seen of a reading that has enough room has enough
-seen-within : (room : ℕ) (message : List ℕ) (end : ℕ) {es : List Entry} (t : Told) (r : Run) → over t ≡ es → length es ≤ room
-    → seen message end t ≡ some r → seen message end t ≡ some (fit room r)
-unfolding seen over fit
-seen-within room message end (kept ts rest) r h l e = fit-same room (within-reached room (entries ts) _ (omega (arith, simp length-append at (ap length h)))) e
-seen-within room message end (lacks ts x rest) r h l e = fit-same room (within-refused room (entries ts) _ _ (omega (arith, simp length-append at (ap length h)))) e
-seen-within room message end (short ts) r h l e = cc
-
-pub old-reads-within : OldReadsWithin
-old-reads-within old new a room message es end e =
-    let enough = fit-reached room (read new (front message)) es end e in
-    seen-within room message (end .place) (tell old es) _ (tells-all old es) (enough .0) (old-reads old new a message es end (enough .1))

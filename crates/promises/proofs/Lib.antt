@@ -3,3 +3,5 @@ pub mod Told
 pub mod OldNew
 pub mod Begin
 pub mod NeverAnother
+pub mod YesExactly
+pub mod Question

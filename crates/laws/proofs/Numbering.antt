@@ -63,15 +63,15 @@ no-two : distinct kinds ≡ true
 unfolding distinct apart kinds sameKind decided both
 no-two = refl
 
-pub kind-below : (i : ℕ) → isKind i ≡ true → i < length kinds
-unfolding isKind
-kind-below i h = ltb-true i (length kinds) h
+pub kind-below : (i : ℕ) → isKind i ≡ true → i < 32
+unfolding isKind kinds
+kind-below i h = ltb-true i 32 h
 
-other-kind : (i j : ℕ) → i < j → j < length kinds → kindOf i ≡ kindOf j → ⊥
-unfolding kindOf
+other-kind : (i j : ℕ) → i < j → j < 32 → kindOf i ≡ kindOf j → ⊥
+unfolding kindOf kinds
 other-kind i j l h e = not-both (kind-itself (kindOf j)) (rw e at (distinct-at (plain unit) kinds no-two i j l h))
 
-one-number : (i j : ℕ) → i < length kinds → j < length kinds → kindOf i ≡ kindOf j → i ≡ j
+one-number : (i j : ℕ) → i < 32 → j < 32 → kindOf i ≡ kindOf j → i ≡ j
 one-number i j h k e =
     by-lt i j (λ l. absurd (other-kind i j l k e)) (λ m. by-lt j i (λ l. absurd (other-kind j i l h (sym e))) (λ n. omega arith))
 

@@ -21,15 +21,15 @@ use Rattle.promises.specs.OldNew.{seen, OldValues}
 abbrev pub YesExactly : Type 0
 YesExactly = (s t : Shape) → (appends s t ≡ true) ↔ Appends s t
 
--- Of two good tables:
+-- What is promised of two good tables.
 pub record OldAndNew (old new : List ℕ) (l m : Layout) : Type 0 where
-  -- the answer is yes exactly if the new table appends to the old one;
+  -- The answer is yes exactly if the new table appends to the old one.
   pub yes-exactly : (asks old new ≡ Says true) ↔ Appends (shapeOf old l) (shapeOf new m)
-  -- then, of a message that the new table reads fully with a store, the old table's reading with that store is what its shape sees of the new one's entries,
+  -- After a yes, of a message that the new table reads fully with a store, the old table's reading with that store is what its shape sees of the new one's entries.
   pub old-sees : asks old new ≡ Says true → (message store : List ℕ) (es : List Entry) (end : Spot)
       → reads new message store ≡ record { made = es; ends = reached end }
       → seen message (end .place) (tell (shapeOf old l) es) ≡ some (reads old message store)
-  -- and has never a different value: its values are those that the new one's begin with.
+  -- After a yes, that reading never has a different value: its values are those that the new one's begin with.
   pub never-another : asks old new ≡ Says true → (message store : List ℕ) (es : List Entry) (end : Spot)
       → reads new message store ≡ record { made = es; ends = reached end }
       → (vs : List Value) × (values (shapeOf new m) message es ≡ whole vs)

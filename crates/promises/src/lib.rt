@@ -1,1 +1,1 @@
-// What an old table and a new one promise each other. It has no code: what is stated stands in specs/, and is proved in proofs/.
+// What the format promises of whole messages and tables. It has no code: what is stated stands in specs/, and is proved in proofs/.

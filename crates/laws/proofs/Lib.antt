@@ -11,3 +11,5 @@ pub mod Runs
 pub mod Beside
 pub mod Longer
 pub mod Numbering
+pub mod Tables
+pub mod Children

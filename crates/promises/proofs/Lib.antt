@@ -1,0 +1,7 @@
+-- The proofs of what specs/ states.
+pub mod Told
+pub mod OldNew
+pub mod Begin
+pub mod NeverAnother
+pub mod YesExactly
+pub mod Question

@@ -1,0 +1,2 @@
+pub mod OldNew
+pub mod Question

@@ -5,3 +5,6 @@ pub mod Parts
 pub mod Rule
 pub mod Items
 pub mod Varints
+pub mod Numbers
+pub mod Utf8
+pub mod Contents

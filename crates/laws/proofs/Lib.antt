@@ -8,3 +8,5 @@ pub mod Varints
 pub mod Numbers
 pub mod Utf8
 pub mod Contents
+pub mod Own
+pub mod Heads

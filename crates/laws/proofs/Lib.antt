@@ -10,3 +10,5 @@ pub mod Utf8
 pub mod Contents
 pub mod Own
 pub mod Heads
+pub mod Runs
+pub mod Places

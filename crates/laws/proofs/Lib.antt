@@ -13,3 +13,9 @@ pub mod Longer
 pub mod Numbering
 pub mod Tables
 pub mod Children
+pub mod Numbers
+pub mod Utf8
+pub mod Contents
+pub mod Own
+pub mod Heads
+pub mod Places

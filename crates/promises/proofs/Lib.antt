@@ -5,3 +5,5 @@ pub mod Begin
 pub mod NeverAnother
 pub mod YesExactly
 pub mod Question
+pub mod Spelling
+pub mod Trips

@@ -3,10 +3,11 @@ pub mod Walks
 pub mod Splits
 pub mod Parts
 pub mod Rule
-pub mod Ranges
+pub mod KindRanges
 pub mod Items
 pub mod Varints
 pub mod Numbers
+pub mod Bytes
 pub mod Utf8
 pub mod Contents
 pub mod Offsets

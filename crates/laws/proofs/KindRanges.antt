@@ -9,7 +9,7 @@ use lib.Seq.{getD-take}
 use Rattle.wire.specs.Shape.{le, be, unit, Kind, plain, pooled, option, sequence, map, struct, enum}
 use Rattle.wire.specs.Walk.{each, following}
 use Rattle.wire.specs.Table.{kinds, kindOf}
-use Rattle.laws.specs.Ranges.{isAlone, sixth}
+use Rattle.laws.specs.KindRanges.{isAlone, sixth}
 use Rattle.laws.proofs.Splits.{by-lt, not-both}
 use Rattle.laws.proofs.Rule.{at}
 

@@ -11,6 +11,7 @@ pub mod Runs
 pub mod Beside
 pub mod Longer
 pub mod Numbering
+pub mod Ranges
 pub mod Tables
 pub mod Children
 pub mod Numbers

@@ -11,3 +11,4 @@ pub mod Runs
 pub mod Beside
 pub mod Longer
 pub mod Numbering
+pub mod Unique

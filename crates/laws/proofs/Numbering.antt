@@ -1,6 +1,6 @@
 -- A kind is known by its number: no two of the kinds are the same, which one computed test says.
 -- Assumes nothing.
-use mathlib.Core.Path.{_≡_, refl, sym, ap, _∙_}
+use mathlib.Core.Path.{_≡_, refl, sym, _∙_}
 use mathlib.Core.Bool.{Bool, true, false, not}
 use mathlib.Core.List.{List, [], _∷_}
 use Prim.Native.Nat.{ℕ, zero, suc, _<_}
@@ -9,9 +9,10 @@ use native.Mathlib.Omega.{arith}
 use lib.ListN.{length, getD}
 use lib.Dec.{eqb}
 use borrow.Author.Tests.{ltb-true, eq-eqb, ne-eqb, not-true}
-use Rattle.wire.specs.Tests.{both, decided}
+use Rattle.wire.specs.Tests.{pick, both, decided}
 use Rattle.wire.specs.Shape.{unit, Kind, plain, sameKind}
 use Rattle.wire.specs.Table.{kinds, isKind, kindOf}
+use Rattle.wire.specs.Append.{isOpen, isOpenRoot}
 use Rattle.laws.proofs.Splits.{by-test, by-lt, by-eq, not-both, both-left, both-right}
 
 -- ---- the same kind
@@ -62,15 +63,15 @@ no-two : distinct kinds ≡ true
 unfolding distinct apart kinds sameKind decided both
 no-two = refl
 
-pub kind-below : (i : ℕ) → isKind i ≡ true → i < length kinds
-unfolding isKind
-kind-below i h = ltb-true i (length kinds) h
+pub kind-below : (i : ℕ) → isKind i ≡ true → i < 32
+unfolding isKind kinds
+kind-below i h = ltb-true i 32 h
 
-other-kind : (i j : ℕ) → i < j → j < length kinds → kindOf i ≡ kindOf j → ⊥
-unfolding kindOf
+other-kind : (i j : ℕ) → i < j → j < 32 → kindOf i ≡ kindOf j → ⊥
+unfolding kindOf kinds
 other-kind i j l h e = not-both (kind-itself (kindOf j)) (rw e at (distinct-at (plain unit) kinds no-two i j l h))
 
-one-number : (i j : ℕ) → i < length kinds → j < length kinds → kindOf i ≡ kindOf j → i ≡ j
+one-number : (i j : ℕ) → i < 32 → j < 32 → kindOf i ≡ kindOf j → i ≡ j
 one-number i j h k e =
     by-lt i j (λ l. absurd (other-kind i j l k e)) (λ m. by-lt j i (λ l. absurd (other-kind j i l h (sym e))) (λ n. omega arith))
 
@@ -78,3 +79,12 @@ pub same-number : (i j : ℕ) → isKind i ≡ true → isKind j ≡ true → sa
 same-number i j h k =
     by-eq i j (λ e. rw e (kind-itself (kindOf j)) ∙ sym (eq-eqb i j e))
     (λ ne. by-test (sameKind (kindOf i) (kindOf j)) (λ s. absurd (ne (one-number i j (kind-below i h) (kind-below j k) (same-kind _ _ s)))) (λ s. s ∙ sym (ne-eqb i j ne)))
+
+-- the kinds in which more may follow, by their numbers
+pub open-number : (i : ℕ) → isKind i ≡ true → isOpen (kindOf i) ≡ eqb i 19
+unfolding isOpen kindOf kinds isKind
+open-number i h = same-number i 19 h refl
+
+pub root-number : (i : ℕ) → isKind i ≡ true → isOpenRoot (kindOf i) ≡ pick (eqb i 18) true (eqb i 19)
+unfolding isOpenRoot kindOf kinds isKind
+root-number i h = rw (same-number i 18 h refl, open-number i h)

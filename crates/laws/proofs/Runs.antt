@@ -12,7 +12,7 @@ use Rattle.wire.specs.declared.Item.{Item}
 use Rattle.wire.specs.declared.Item.the-variants.{Took, Refused}
 use Rattle.wire.specs.Shape.{Kind}
 use Rattle.wire.specs.Values.{Entry}
-use Rattle.wire.specs.Reading.{Head, Spot, Run, Outcome, reached, refused, behind, readNothing, readOn, readThen, past, enter, readItem, within, fit}
+use Rattle.wire.specs.Reading.{Head, Spot, Run, Outcome, reached, refused, behind, readNothing, readOn, readThen, enter, readItem, within, fit}
 
 -- ---- without a bound
 

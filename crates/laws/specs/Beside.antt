@@ -11,7 +11,7 @@ use Rattle.wire.specs.declared.Item.the-variants.{Took, Refused}
 use Rattle.wire.specs.Shape.{Kind, Shape}
 use Rattle.wire.specs.Walk.{following, isKnown, walk}
 use Rattle.wire.specs.Values.{Entry}
-use Rattle.wire.specs.Reading.{Head, Spot, Run, Outcome, reached, refused, past, reading}
+use Rattle.wire.specs.Reading.{Head, Spot, Outcome, reached, refused, past, reading}
 
 -- Which spots and which entries are alike, and what may be said of the second reading where the first one refuses at a place:
 -- the entries that the second makes from there on, and its end.

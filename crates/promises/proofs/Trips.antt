@@ -1,0 +1,227 @@
+-- Writing, reading back, telling both lists' entries apart and spelling their values: four walks over a shape that one law holds together.
+-- Assumes nothing.
+use mathlib.Core.Path.{_≡_, refl, sym, ap, ap₂, _∙_}
+use mathlib.Core.Bool.{true}
+use mathlib.Core.List.{List, [], _∷_, _++_, append-assoc, map-append}
+use mathlib.Core.List as lists
+use mathlib.Core.Option.{Option, none, some}
+use Prim.Native.Nat.{ℕ, suc, _+_, _<_, _^_}
+use native.Mathlib.Nat.{add-assoc, add-zero}
+use lib.ListN.{length, drop, length-append}
+use lib.Seq.{drop-append-seam}
+use Rattle.wire.specs.Tests.{given}
+use Rattle.wire.specs.Shape.{Kind, Shape}
+use Rattle.wire.specs.Walk.{Follow, following, isKnown, Walk, walk}
+use Rattle.wire.specs.Values.{Entry, Tag, Told, kept, ahead, tellNothing, tellOn, tellThen, tellItem, telling, tell, Value, valueOf}
+use Rattle.wire.specs.Reading.{Spot, Run, reached, behind, past, readNothing, readOn, readThen, enter, readItem, head, reading, read}
+use Rattle.wire.specs.Writing.{Left, Wrote, wrote, misfit, after, headBytes, writeNothing, writeOn, writeThen, spell, writeEntry, writeItem, writing, write}
+use Rattle.laws.specs.Steps.{Every}
+use Rattle.laws.proofs.Walks.{every}
+use Rattle.laws.proofs.Parts as parts
+use Rattle.laws.proofs.Heads.{tag, ItemBack, written-known, head-back}
+use Rattle.promises.proofs.Spelling.{Spelling, spelt, spellOn, spellItem, spelling, item-spells}
+
+-- ---- entries
+
+-- their words are u64
+abbrev pub AreEntries : List Entry → Type 0
+AreEntries [] = Unit {0}
+AreEntries (e ∷ es) = (e .first < 2 ^ 64) × (e .second < 2 ^ 64) × AreEntries es
+
+entries-left : (es fs : List Entry) → AreEntries (es ++ fs) → AreEntries es
+entries-left [] fs h = tt
+entries-left (e ∷ es) fs h = (h .0, h .1, entries-left es fs (h .2))
+
+entries-right : (es fs : List Entry) → AreEntries (es ++ fs) → AreEntries fs
+entries-right [] fs h = h
+entries-right (e ∷ es) fs h = entries-right es fs (h .2)
+
+-- a step tells the entries es apart as ts, and whatever stands behind them is left
+pub record Tells (u : List Entry → Told) (es : List Entry) (ts : List Tag) : Type 0 where
+  pub told : (rest : List Entry) → u (es ++ rest) ≡ kept ts rest
+
+nothing-tells : Tells tellNothing [] []
+unfolding tellNothing
+nothing-tells = record { told = λ rest. refl }
+
+then-tells : {u v : List Entry → Told} {es fs : List Entry} {ts us : List Tag} → Tells u es ts → Tells v fs us → Tells (tellThen u v) (es ++ fs) (ts ++ us)
+unfolding tellThen tellOn ahead
+then-tells {es} {fs} {ts} {us} a b = record { told = λ rest. rw (append-assoc es fs rest, a .told (fs ++ rest), b .told rest) }
+
+item-tells : (k : Kind) (n : ℕ) (next : ℕ → List Entry → Told) (e : Entry) {es : List Entry} {ts : List Tag} → isKnown (following k (e .first)) n ≡ true
+    → Tells (next (e .first)) es ts → Tells (tellItem k n next) (e ∷ es) (record { kind = k; entry = e } ∷ ts)
+unfolding tellItem ahead given
+item-tells k n next e h a = record { told = λ rest. rw (h, a .told rest) }
+
+-- ---- what is to be shown of the steps of the four walks
+
+-- what f reads of s, which was written of so many entries told apart as ts, where s and then rest stand at the place p of a message
+pub record Again (pool : List ℕ) (f : Spot → Run) (u : List Entry → Told) (count : ℕ) (ts : List Tag) (s : List ℕ) (p : ℕ) (rest message : List ℕ) : Type 0 where
+  pub made : List Entry
+  pub tags : List Tag
+  pub reads : f (record { bytes = s ++ rest; place = p }) ≡ record { made = made; ends = reached (record { bytes = rest; place = p + length s }) }
+  pub tells : Tells u made tags
+  pub same : lists.map (valueOf pool) ts ≡ lists.map (valueOf message) tags
+  pub many : length made ≡ count
+
+-- s was written of the entries es in front of what is left
+pub record Back (pool : List ℕ) (f : Spot → Run) (u : List Entry → Told) (v : List Value → Spelling) (es : List Entry) (s : List ℕ) (left : List Entry) : Type 0 where
+  pub used : List Entry
+  pub tags : List Tag
+  pub split : es ≡ used ++ left
+  pub tells : Tells u used tags
+  pub spells : (vs : List Value) → v (lists.map (valueOf pool) tags ++ vs) ≡ spelt s vs
+  pub again : AreEntries used → (p : ℕ) (rest message : List ℕ) → drop p message ≡ s ++ rest → Again pool f u (length used) tags s p rest message
+
+abbrev pub GoodBack : List ℕ → (Spot → Run) → (List Entry → Told) → (List Value → Spelling) → List Entry → Wrote → Type 0
+GoodBack pool f u v es (wrote s x) = Back pool f u v es s (x .entries)
+GoodBack pool f u v es (misfit i) = Unit {0}
+
+-- whatever g writes f reads back, u tells both lists' entries apart, and v spells their values
+pub record Trip (pool : List ℕ) (g : Left → Wrote) (f : Spot → Run) (u : List Entry → Told) (v : List Value → Spelling) : Type 0 where
+  pub back : (x : Left) → GoodBack pool f u v (x .entries) (g x)
+
+module _ (pool : List ℕ) where
+  -- ---- nothing
+
+  nothing-trip : Trip pool writeNothing readNothing tellNothing (spelt [])
+  unfolding writeNothing readNothing
+  nothing-trip =
+      record {
+        back = λ x. record { used = []; tags = []; split = refl; tells = nothing-tells; spells = λ vs. refl; again = λ h p rest message at. again p rest message };
+      }
+    where
+      again : (p : ℕ) (rest message : List ℕ) → Again pool readNothing tellNothing 0 [] [] p rest message
+      again p rest message = record { made = []; tags = []; reads = rw add-zero; tells = nothing-tells; same = refl; many = refl }
+
+  -- ---- one after the other
+
+  then-again : {f f′ : Spot → Run} {u u′ : List Entry → Told} {c c′ p : ℕ} {ts us : List Tag} {s t rest message : List ℕ}
+      → Again pool f u c ts s p (t ++ rest) message → Again pool f′ u′ c′ us t (p + length s) rest message
+      → Again pool (readThen f f′) (tellThen u u′) (c + c′) (ts ++ us) (s ++ t) p rest message
+  unfolding readThen readOn behind
+  then-again {p} {ts} {us} {s} {t} {rest} {message} a b =
+      record {
+        made = a .made ++ b .made;
+        tags = a .tags ++ b .tags;
+        reads = rw (append-assoc s t rest, a .reads, b .reads, length-append s t, add-assoc p (length s) (length t));
+        tells = then-tells (a .tells) (b .tells);
+        same = rw (map-append (valueOf pool) ts us, map-append (valueOf message) (a .tags) (b .tags), a .same, b .same);
+        many = length-append (a .made) (b .made) ∙ ap₂ _+_ (a .many) (b .many);
+      }
+
+  module _ (f f′ : Spot → Run) (u u′ : List Entry → Told) (v v′ : List Value → Spelling) where
+    then-back : {es left : List Entry} {s : List ℕ} → Back pool f u v es s left → (w : Wrote) → GoodBack pool f′ u′ v′ left w
+        → GoodBack pool (readThen f f′) (tellThen u u′) (λ vs. spellOn (v vs) v′) es (after s w)
+    unfolding after
+    then-back a (misfit i) b = tt
+    then-back {s} a (wrote t y) b =
+        let those : List Value = lists.map (valueOf pool) (a .tags) in
+        let these : List Value = lists.map (valueOf pool) (b .tags) in
+        record {
+          used = a .used ++ b .used;
+          tags = a .tags ++ b .tags;
+          split = a .split ∙ ap (λ l. a .used ++ l) (b .split) ∙ sym (append-assoc (a .used) (b .used) (y .entries));
+          tells = then-tells (a .tells) (b .tells);
+          spells = λ vs.
+              rw (map-append (valueOf pool) (a .tags) (b .tags), append-assoc those these vs, a .spells (these ++ vs), b .spells vs);
+          again = λ h p rest message at.
+              let at′ : drop p message ≡ s ++ (t ++ rest) = at ∙ append-assoc s t rest in
+              rw (length-append (a .used) (b .used))
+              (then-again (a .again (entries-left (a .used) (b .used) h) p (t ++ rest) message at′)
+              (b .again (entries-right (a .used) (b .used) h) (p + length s) rest message (parts.behind message s (t ++ rest) p at′)));
+        }
+
+    then-trip : {g g′ : Left → Wrote} → Trip pool g f u v → Trip pool g′ f′ u′ v′ → Trip pool (writeThen g g′) (readThen f f′) (tellThen u u′) (λ vs. spellOn (v vs) v′)
+    unfolding writeThen writeOn
+    then-trip {g} {g′} a b = record { back = λ x. go x (g x) (a .back x) }
+      where
+        go : (x : Left) (w : Wrote) → GoodBack pool f u v (x .entries) w
+            → GoodBack pool (readThen f f′) (tellThen u u′) (λ vs. spellOn (v vs) v′) (x .entries) (writeOn w g′)
+        go x (misfit i) h = tt
+        go x (wrote s y) h = then-back h (g′ y) (b .back y)
+
+  -- ---- an item, and then what follows it
+
+  module _ (k : Kind) (n : ℕ) (F : Follow → Spot → Run) (T : Follow → List Entry → Told) (S : Follow → List Value → Spelling) where
+    abbrev f : Spot → Run
+    f = readItem head k n (λ a. F (following k a))
+
+    abbrev u : List Entry → Told
+    u = tellItem k n (λ a. T (following k a))
+
+    abbrev v : List Value → Spelling
+    v = spellItem k n (λ a. S (following k a))
+
+    item-again : {a b c q p : ℕ} {us : List Tag} {s t rest message : List ℕ} (i : ItemBack k n pool a b s p (t ++ rest) message)
+        → isKnown (following k a) n ≡ true → Again pool (F (following k a)) (T (following k a)) c us t (p + length s) rest message
+        → Again pool f u (suc c) (tag k a b q ∷ us) (s ++ t) p rest message
+    unfolding readItem enter behind past
+    item-again {q} {p} {us} {s} {t} {rest} {message} i knows b =
+        record {
+          made = record { first = i .first; second = i .second; place = p } ∷ b .made;
+          tags = tag k (i .first) (i .second) p ∷ b .tags;
+          reads =
+              rw (append-assoc s t rest, i .reads, drop-append-seam s (t ++ rest), ← (i .ways), b .reads, length-append s t, add-assoc p (length s) (length t));
+          tells = item-tells k n _ _ (rw (← (i .ways)) knows) (rw (← (i .ways)) (b .tells));
+          same = ap₂ _∷_ (i .same q p) (b .same);
+          many = ap suc (b .many);
+        }
+
+    item-back : (e : Entry) (es : List Entry) {s : List ℕ} → headBytes k n pool (e .first) (e .second) ≡ some s
+        → (w : Wrote) → GoodBack pool (F (following k (e .first))) (T (following k (e .first))) (S (following k (e .first))) es w
+        → GoodBack pool f u v (e ∷ es) (after s w)
+    unfolding after
+    item-back e es is (misfit i) b = tt
+    item-back e es {s} is (wrote t y) b =
+        let spells = item-spells k n pool e is in
+        record {
+          used = e ∷ b .used;
+          tags = record { kind = k; entry = e } ∷ b .tags;
+          split = ap (λ l. e ∷ l) (b .split);
+          tells = item-tells k n _ e (written-known k n pool (e .first) (e .second) is) (b .tells);
+          spells = λ vs. rw (spells .ways, b .spells vs, spells .bytes);
+          again = λ h p rest message at.
+              let at′ : drop p message ≡ s ++ (t ++ rest) = at ∙ append-assoc s t rest in
+              item-again {q = e .place} (head-back n pool (e .first) (e .second) (h .0) (h .1) p (t ++ rest) message at′ k is)
+              (written-known k n pool (e .first) (e .second) is)
+              (b .again (h .2) (p + length s) rest message (parts.behind message s (t ++ rest) p at′));
+        }
+
+    item-trip : (G : Follow → Left → Wrote) → ((a : ℕ) → Trip pool (G (following k a)) (F (following k a)) (T (following k a)) (S (following k a)))
+        → Trip pool (writeItem pool k n (λ a. G (following k a))) f u v
+    unfolding writeItem writeEntry spell
+    item-trip G trips = record { back = λ x. start (x .at) (x .entries) }
+      where
+        found : (j : ℕ) (e : Entry) (es : List Entry) (o : Option (List ℕ)) → headBytes k n pool (e .first) (e .second) ≡ o
+            → GoodBack pool f u v (e ∷ es) (spell o (e .first) (λ a. G (following k a)) j es)
+        found j e es none is = tt
+        found j e es (some s) is =
+            let x : Left = record { at = j + 1; entries = es } in item-back e es is (G (following k (e .first)) x) (trips (e .first) .back x)
+
+        start : (j : ℕ) (es : List Entry) → GoodBack pool f u v es (writeEntry k n pool (λ a. G (following k a)) j es)
+        start j [] = tt
+        start j (e ∷ es) = found j e es (headBytes k n pool (e .first) (e .second)) refl
+
+  -- ---- a shape
+
+  data Which : Type 0 where
+    writes reads tells spells : Which
+
+  abbrev four : Which → Walk
+  four writes = writing pool
+  four reads = reading head
+  four tells = telling
+  four spells = spelling
+
+  trips : Every four (λ s. Trip pool (s writes) (s reads) (s tells) (s spells))
+  trips =
+      record {
+        none = nothing-trip;
+        both = λ {f} {g}. then-trip (f reads) (g reads) (f tells) (g tells) (f spells) (g spells);
+        made = λ s k n. item-trip k n (λ way. s way reads) (λ way. s way tells) (λ way. s way spells) (λ way. s way writes);
+      }
+
+  pub trip : (t : Shape) → Trip pool (write t pool) (read t) (tell t) (walk spelling t)
+  unfolding write read tell
+  trip = every trips

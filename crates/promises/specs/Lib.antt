@@ -1,0 +1,3 @@
+pub mod OldNew
+pub mod Question
+pub mod RoundTrip

@@ -11,7 +11,7 @@ use Rattle.wire.specs.Tests.{pick, both}
 use Rattle.wire.specs.Walk.{following, isKnown}
 use Rattle.wire.specs.Table.{kinds, isKind, kindOf, recordOf, firstChild, childCount, goodPlaces}
 use Rattle.laws.proofs.Splits.{by-lt, by-eq}
-use Rattle.laws.proofs.Ranges.{end, _&_, in-kinds, low-kinds, high-kinds}
+use Rattle.laws.proofs.EachKind.{end, _&_, in-kinds, low-kinds, high-kinds}
 use Rattle.table.specs.declared.Stretch.{Stretch}
 use Rattle.table.specs.Parts.{followed}
 

@@ -1,7 +1,8 @@
--- The contract is an equation, so one answer meets it.
+-- The contract is an equation.
 -- Assumes nothing.
-use mathlib.Core.Path.{sym, _∙_}
+use Rattle.wire.specs.Table.{check}
+use Rattle.laws.proofs.Unique.{by-equation}
 use Rattle.table.specs.Promise.{OneCheck}
 
 pub one-check : OneCheck
-one-check table a b p q = p ∙ sym q
+one-check table = by-equation (check table)

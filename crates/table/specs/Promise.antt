@@ -5,6 +5,7 @@ use mathlib.Core.List.{List}
 use Prim.Native.Nat.{ℕ}
 use Rattle.wire.specs.declared.Checked.{Checked}
 use Rattle.wire.specs.Table.{check}
+use Rattle.laws.specs.Unique.{Unique}
 
 abbrev pub OneCheck : Type 0
-OneCheck = (table : List ℕ) (a b : Checked) → a ≡ check table → b ≡ check table → a ≡ b
+OneCheck = (table : List ℕ) → Unique (λ (r : Checked). r ≡ check table)

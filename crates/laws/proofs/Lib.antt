@@ -4,6 +4,7 @@ pub mod Splits
 pub mod Parts
 pub mod Rule
 pub mod KindRanges
+pub mod EachKind
 pub mod Items
 pub mod Varints
 pub mod Known
@@ -12,6 +13,7 @@ pub mod Runs
 pub mod Beside
 pub mod Longer
 pub mod Numbering
+pub mod Unique
 pub mod Tables
 pub mod Children
 pub mod Numbers

@@ -1,0 +1,5 @@
+pub mod Trailers
+pub mod Numbered
+pub mod Checks
+pub mod Stretches
+pub mod Unique

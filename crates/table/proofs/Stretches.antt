@@ -1,0 +1,82 @@
+-- Stretches of children's numbers: those of a good table's nodes fall, and a walk over what follows an item goes through a stretch so often.
+-- Assumes nothing.
+use mathlib.Core.Path.{_≡_, refl, ap, _∙_}
+use mathlib.Core.Bool.{true}
+use mathlib.Core.List.{List}
+use Prim.Native.Nat.{ℕ, zero, suc, _+_, _-_, _*_, _<_}
+use native.Mathlib.Nat.{add-zero}
+use native.Mathlib.Omega.{arith}
+use lib.ListN.{length}
+use borrow.Author.Tests.{ltb-true}
+use Rattle.wire.specs.declared.Layout.{Layout}
+use Rattle.wire.specs.declared.Checked.{Checked}
+use Rattle.wire.specs.declared.Checked.the-variants.{Good, Bad}
+use Rattle.wire.specs.Shape.{Shape}
+use Rattle.wire.specs.Walk.{Follow, each, only, isKnown, Walk, Step, times, along, walks}
+use Rattle.wire.specs.Table.{u16At, layoutAt, nodeAt, recordOf, shapesAt, checkFrom, checkAt, check}
+use Rattle.laws.specs.Steps.{row}
+use Rattle.laws.specs.Tables.{nodeFirst, nodeCount, GoodTable}
+use Rattle.laws.proofs.Splits.{of-given}
+use Rattle.laws.proofs.Tables.{next-place, good-table}
+use Rattle.laws.proofs.Children.{only-once}
+use Rattle.table.specs.Parts.{followed, Falls}
+
+-- ---- numbers that fall
+
+module _ {s : List ℕ} {from n i : ℕ} (f : Falls s from n i) where
+  pub falls-first : 0 < n → u16At s from < i
+  falls-first h = rw (add-zero from) at (f .below 0 h)
+
+  pub falls-next : 0 < n → Falls s (from + 2) (n - 1) i
+  falls-next h = record { inside = omega (arith, f .inside); below = λ c l. rw (← next-place from c) (f .below (suc c) (omega arith)) }
+
+  pub falls-at : (v : ℕ) → v < n → Falls s (from + 2 * v) 1 i
+  falls-at v h = record { inside = omega (arith, f .inside); below = λ c l. let e : from + 2 * v + 2 * c ≡ from + 2 * v = omega arith in rw e (f .below v h) }
+
+  pub falls-followed : (way : Follow) → isKnown way n ≡ true → Falls s (followed way from n .from) (followed way from n .width) i
+  unfolding followed isKnown
+  falls-followed (each c) k = f
+  falls-followed (only v) k = falls-at v (ltb-true v n k)
+
+pub node-falls : {s : List ℕ} {l : Layout} {i : ℕ} → GoodTable s l → i < l .nodes
+    → Falls s (nodeFirst l i (nodeAt s (recordOf l i))) (nodeCount (nodeAt s (recordOf l i))) i
+node-falls {i} g h = let n = g .node-good i h in record { inside = omega (arith, n .children-inside, g .children-end); below = n .children-below }
+
+-- ---- a walk over them
+
+pub along-followed : (w : Walk) → ((g : Step w) (x : w .From) → w .then g (w .nothing) x ≡ g x)
+    → (f : ℕ → Shape) (s : List ℕ) (way : Follow) (from n : ℕ) → isKnown way n ≡ true → (x : w .From)
+    → along w way (walks w (shapesAt f s from n)) x
+    ≡ times w (followed way from n .rounds) (row w (shapesAt f s (followed way from n .from) (followed way from n .width))) x
+unfolding along followed isKnown
+along-followed w then-nothing f s (each c) from n k x = refl
+along-followed w then-nothing f s (only v) from n k x = only-once w f s then-nothing from n v (ltb-true v n k) x
+
+-- ---- the root, whose number stands in the trailer
+
+abbrev Laid : Layout → Checked → Type 0
+Laid l (Good m) = l ≡ m
+Laid l (Bad e i) = Unit {0}
+
+from-laid : (s : List ℕ) (l : Layout) (i n : ℕ) → Laid l (checkFrom s l i n)
+unfolding checkFrom
+from-laid s l i zero = refl
+from-laid s l i (suc n) = of-given (Laid l) _ _ _ (λ _. from-laid s l (i + 1) n) (λ _. tt)
+
+check-laid : (s : List ℕ) → Laid (layoutAt s (length s - 10)) (check s)
+unfolding check checkAt
+check-laid s =
+    of-given (Laid (layoutAt s (length s - 10))) _ _ _
+    (λ _. of-given (Laid (layoutAt s (length s - 10))) _ _ _ (λ _. from-laid s (layoutAt s (length s - 10)) 0 _) (λ _. tt)) (λ _. tt)
+
+module _ (s : List ℕ) {l : Layout} (good : check s ≡ Good l) (at : ℕ) (place : at + 4 ≡ length s) where
+  pub root-number : u16At s at ≡ l .root
+  unfolding layoutAt
+  root-number =
+      let laid : layoutAt s (length s - 10) ≡ l = rw good at (check-laid s) in
+      let here : at ≡ length s - 10 + 6 = omega (arith, good-table s l good .children-end) in
+      ap (u16At s) here ∙ ap (λ m. m .root) laid
+
+  pub root-falls : Falls s at 1 (l .nodes)
+  root-falls =
+      record { inside = omega arith; below = λ c h. let e : at + 2 * c ≡ at = omega arith in rw (e, root-number) (good-table s l good .root-below) }

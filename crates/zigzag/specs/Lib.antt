@@ -1,0 +1,3 @@
+-- What the contracts of signed numbers cite, and what is stated of them.
+pub mod Widths
+pub mod Unique

@@ -13,11 +13,13 @@ use Rattle.wire.specs.declared.Refusal.{Refusal}
 use Rattle.wire.specs.declared.Item.{Item}
 use Rattle.wire.specs.declared.Item.the-variants.{Took, Refused}
 use Rattle.wire.specs.Tests.{pick}
-use Rattle.wire.specs.Numbers.{most, last, low, varintF, varint, onFirst, wordOf}
+use Rattle.wire.specs.Numbers.{most, last, varintF, varint, onFirst, wordOf}
 use Rattle.wire.specs.Shape.{Width, w32, w64, Leaf, bool, i8, u8, f32, f64, char, unit, int, fixed, Kind, plain, pooled, option, sequence, map, struct, enum, Shapes}
 use Rattle.wire.specs.Values.{Entry}
 use Rattle.wire.specs.Reading.{Spot, Run, Outcome, reached, flag, counted, charOf, contentOf, readLeaf, known, head, behind, readNothing, readOn, readThen, past, enter, readItem, reading, read}
 use Rattle.laws.specs.Steps.{Every, row}
+use Rattle.laws.specs.Range.{span, InRange}
+use Rattle.laws.proofs.Varints.{in-range}
 use Rattle.laws.specs.Bounds.{start, Fits, takes, Stays, reaches, ReadsInside, PlacesKept}
 use Rattle.laws.proofs.Walks.{every, every-row}
 
@@ -28,21 +30,13 @@ unfolding pick
 fits-pick true h k = h tt
 fits-pick false h k = k tt
 
-fits-low : {s : List ℕ} {i : Item} (b : ℕ) → Fits s i → Fits (b ∷ s) (low b i)
-unfolding low
-fits-low b (takes {n} h) = takes {n = n + 1} (omega arith)
-fits-low b Fits.refuses = Fits.refuses
-
-fits-varintF : (k top : ℕ) (s : List ℕ) → Fits s (varintF k top s)
-unfolding varintF
-fits-varintF zero top s = Fits.refuses
-fits-varintF (suc k) top [] = Fits.refuses
-fits-varintF (suc zero) top (b ∷ s) = fits-pick (leb b top) (λ h. takes {n = 1} (omega arith)) (λ h. Fits.refuses)
-fits-varintF (suc (suc k)) top (b ∷ s) = fits-pick (ltb b 128) (λ h. takes {n = 1} (omega arith)) (λ h. fits-low b (fits-varintF (suc k) top s))
+fits-range : (limit : ℕ) (s : List ℕ) (i : Item) → InRange limit s i → Fits s i
+fits-range limit s (Took v b n) h = takes (h .within)
+fits-range limit s (Refused e) h = Fits.refuses
 
 pub fits-varint : (w : Width) (s : List ℕ) → Fits s (varint w s)
 unfolding varint
-fits-varint w s = fits-varintF (most w) (last w) s
+fits-varint w s = fits-range (span (most w) (last w)) s (varintF (most w) (last w) s) (in-range (most w) (last w) s)
 
 fits-onFirst : {s : List ℕ} {i : Item} (f : ℕ → ℕ) → Fits s i → Fits s (onFirst f i)
 unfolding onFirst

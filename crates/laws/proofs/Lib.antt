@@ -3,6 +3,7 @@ pub mod Walks
 pub mod Splits
 pub mod Parts
 pub mod Rule
+pub mod KindRanges
 pub mod Items
 pub mod Varints
 pub mod Known
@@ -11,11 +12,14 @@ pub mod Runs
 pub mod Beside
 pub mod Longer
 pub mod Numbering
+pub mod Unique
 pub mod Tables
 pub mod Children
 pub mod Numbers
+pub mod Bytes
 pub mod Utf8
 pub mod Contents
+pub mod Offsets
 pub mod Own
 pub mod Heads
 pub mod Places

@@ -1,18 +1,18 @@
 -- A law of a walk's parts is a law of the walk.
 -- Assumes nothing.
-use mathlib.Core.Path.{_≡_, refl, sym, subst}
+use mathlib.Core.Path.{_≡_, refl, sym}
 use mathlib.Core.Bool.{Bool, true, false}
 use mathlib.Core.List.{List}
 use Prim.Native.Nat.{ℕ, zero, suc, _≤_, _<_}
 use native.Mathlib.Nat.{not-suc-le-zero}
 use borrow.Author.Tests.{ltb-true}
 use native.Mathlib.Omega.{arith}
-use lib.Dec.{T}
 use Rattle.wire.specs.Tests.{decided}
 use Rattle.wire.specs.Shape.{Kind, plain, pooled, option, sequence, map, struct, enum, sameKind, Shape, node, Shapes, none, more, count}
 use Rattle.wire.specs.Walk.{Follow, following, isKnown, Walk, Step, all, times, nth, along, walk, walks}
 use Rattle.wire.specs.Append.{isOpen, Matches, First, Appends}
 use Rattle.wire.specs.Append as append
+use Rattle.laws.proofs.Splits.{not-both}
 use Rattle.laws.specs.Steps.{row, Steps, Law, Appending, Every}
 
 pub first-count : {free : Bool} {ss ts : Shapes} → First free ss ts → count ss ≤ count ts
@@ -24,9 +24,6 @@ first-count (append.also m n) = let h = first-count n in omega arith
 neither : (b : Bool) → (b ≡ false → ⊥) → (b ≡ true → ⊥) → ⊥
 neither true h k = k refl
 neither false h k = h refl
-
-never {ℓ} : {A : Type ℓ} → true ≡ false → A
-never h = absurd (subst T h tt)
 
 node-children : {k : Kind} {ss ts : Shapes} → node k ss ≡ node k ts → ss ≡ ts
 node-children e = cc
@@ -81,7 +78,7 @@ module _ {one : Bool} {I J : Type 0} {olds : I → Walk} {news : J → Walk} {R 
 
     of-row : {free : Bool} {ss ts : Shapes} → First free ss ts → free ≡ false → (one ≡ true → ss ≡ ts) → R (λ i. row (olds i) ss) (λ j. row (news j) ts)
     of-row append.ended c e = law .none
-    of-row append.appended c e = never c
+    of-row append.appended c e = not-both refl c
     of-row (append.also m n) c e = law .both (of-walk m (λ q. more-first (e q))) (of-row n c (λ q. more-rest (e q)))
 
     of-nth : {free : Bool} {ss ts : Shapes} → First free ss ts → (v : ℕ) → (one ≡ false → v < count ss) → (one ≡ true → ss ≡ ts)
@@ -99,7 +96,7 @@ module _ {I J : Type 0} {olds : I → Walk} {news : J → Walk} {R : Steps olds 
   of-two = record { none = law .none; both = law .both; made = λ f g k n m l h. law .made f g k n m l (λ a e. h a (λ q. e)) }
 
   pub walk-law : {s t : Shape} → Matches s t → R (λ i. walk (olds i) s) (λ j. walk (news j) t)
-  walk-law m = of-walk of-two m (λ q. never (sym q))
+  walk-law m = of-walk of-two m (λ q. not-both refl (sym q))
 
   module _ {P : Steps olds → Steps news → Type 0} (appending : Appending olds news R P) where
     fields-law : {ss ts : Shapes} → First true ss ts → P (λ i. row (olds i) ss) (λ j. row (news j) ts)
@@ -127,7 +124,7 @@ mutual
 
 module _ {I : Type 0} {ws : I → Walk} {P : Steps ws → Type 0} (e : Every ws P) where
   of-one : General true ws (λ (j : ⊥). absurd j) (λ f g. P f)
-  of-one = record { none = e .none; both = e .both; made = λ f g k n m l h. e .made f k n (λ a. h a (λ q. never q)) }
+  of-one = record { none = e .none; both = e .both; made = λ f g k n m l h. e .made f k n (λ a. h a (λ q. not-both refl q)) }
 
   pub every : (t : Shape) → P (λ i. walk (ws i) t)
   every t = of-walk of-one (matches-refl t) (λ q. refl)

@@ -7,3 +7,7 @@ pub mod YesExactly
 pub mod Question
 pub mod Spelling
 pub mod Trips
+pub mod Written
+pub mod RoundTrips
+pub mod SameBytes
+pub mod Shortest

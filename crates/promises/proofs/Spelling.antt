@@ -41,9 +41,6 @@ spellItem k n next (v ∷ vs) = before (spell k n v) (next (firstOf v) vs)
 abbrev pub spelling : Walk
 spelling = record { From = List Value; To = Spelling; nothing = spelt []; then = λ f g vs. spellOn (f vs) g; item = spellItem }
 
-abbrev pub bytesOf : Spelling → List ℕ
-bytesOf (spelt s vs) = s
-
 -- ---- an item
 
 -- the value v of an item whose first word is a spells s, and names the same children

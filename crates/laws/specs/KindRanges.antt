@@ -1,0 +1,24 @@
+-- The kinds that the code matches by ranges of their numbers.
+-- Assumes nothing.
+use mathlib.Core.Bool.{Bool, true, false}
+use Prim.Native.Nat.{ℕ, zero, suc}
+use Rattle.wire.specs.Shape.{w16, w32, w64, Order, signed, unsigned, Leaf, fixed, Kind, plain, pooled, option, sequence, map, struct, enum}
+
+-- no children, so no other item, follow an item of it
+unfoldable pub isAlone : Kind → Bool
+isAlone (plain l) = true
+isAlone (pooled c) = true
+isAlone option = false
+isAlone sequence = false
+isAlone map = false
+isAlone struct = false
+isAlone enum = false
+
+-- the fixed-size integers of one order, as their kinds' numbers go
+unfoldable pub sixth : Order → ℕ → Leaf
+sixth o zero = fixed o signed w16
+sixth o (suc zero) = fixed o signed w32
+sixth o (suc (suc zero)) = fixed o signed w64
+sixth o (suc (suc (suc zero))) = fixed o unsigned w16
+sixth o (suc (suc (suc (suc zero)))) = fixed o unsigned w32
+sixth o (suc (suc (suc (suc (suc k))))) = fixed o unsigned w64

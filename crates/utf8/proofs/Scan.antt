@@ -7,7 +7,7 @@ use Prim.Native.Nat.{ℕ, zero, suc, _+_, _-_, _<_, _≤_}
 use native.Mathlib.Omega.{arith}
 use lib.ListN.{length, getD, drop, drop-of-length-le, length-drop}
 use lib.Dec.{leb}
-use borrow.Author.Tests.{lt-ltb, le-ltb}
+use borrow.Author.Tests.{lt-ltb, le-ltb, not-true, not-false}
 use Rattle.wire.specs.Tests.{both}
 use Rattle.wire.specs.Text.{widthOf, lowOf, highOf, utf8F, utf8}
 use Rattle.laws.proofs.Splits.{by-test, by-lt}
@@ -35,14 +35,6 @@ lacks (suc k) lo hi [] h = refl
 lacks (suc k) lo hi (b ∷ t) h =
     by-test (both (leb lo b) (leb b hi)) (λ e. rw e (lacks k 0x80 0xbf t (omega arith))) (λ e. rw e)
 
-no-not : (t : Bool) → not t ≡ true → t ≡ false
-no-not true e = sym e
-no-not false e = refl
-
-yes-not : (t : Bool) → not t ≡ false → t ≡ true
-yes-not true e = refl
-yes-not false e = sym e
-
 module _ {s : List ℕ} {from left lo hi i : ℕ} (r : Scan s from left lo hi i) where
   pub short : i ≤ length s → length s < i + left → utf8 (drop from s) ≡ false
   short l h = sym (r .same) ∙ lacks left lo hi (drop i s) (simp length-drop (omega arith))
@@ -65,10 +57,10 @@ module _ {s : List ℕ} {from left lo hi i : ℕ} (r : Scan s from left lo hi i)
     -- by the answer ok of a test of its range
     module _ {ok : Bool} (e : ok ≡ both (leb lo (getD s i 0)) (leb (getD s i 0) hi)) where
       pub refuses : not ok ≡ true → utf8 (drop from s) ≡ false
-      refuses f = out (sym e ∙ no-not ok f)
+      refuses f = out (sym e ∙ not-true ok f)
 
       pub goes-on : (j : ℕ) → i + 1 ≡ j → not ok ≡ false → Scan s from k 0x80 0xbf j
-      goes-on j place f = subst (Scan s from k 0x80 0xbf) place (in-range (sym e ∙ yes-not ok f))
+      goes-on j place f = subst (Scan s from k 0x80 0xbf) place (in-range (sym e ∙ not-false ok f))
 
 -- ---- at a lead byte
 

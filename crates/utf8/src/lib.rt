@@ -1,11 +1,18 @@
 // UTF-8: whether bytes are a text, a text's first char, a char's bytes, and the items that hold text.
+use wire::Item;
+use wire::Refusal;
 ghost use mathlib.Core.Path.{_≡_};
 ghost use mathlib.Core.Bool.{true};
+ghost use Prim.Native.Nat.{_+_, _<_, _^_};
 ghost use lib.Dec.{leb};
+ghost use lib.ListN.{length};
 ghost use Rattle.wire.specs.Tests.{both};
 ghost use Rattle.wire.specs.Text.{widthOf, utf8, firstChar, isChar};
+ghost use Rattle.wire.specs.Shape.{char, pooled};
+ghost use Rattle.wire.specs.Reading.{charOf, isContent, contentOf, readLeaf, head};
 ghost use Rattle.utf8.specs.Scan.{isSecond, Lead, Start, Same, After};
 ghost use Rattle.utf8.specs.Chars.{leadOf, overOf, Form};
+ghost use Rattle.utf8.specs.Contents.{contentIf};
 
 // How many bytes a sequence has that starts with a byte, 0 where none does. A row for each high half of the byte.
 const WIDTHS: [[u8; 16]; 16] = [
@@ -256,4 +263,96 @@ pub fn char_bytes(c: u64) -> CharBytes
         bytes: [0, 0, 0, 0],
         len: 0,
     }
+}
+
+// A char of `count` bytes, behind a count that took `used`.
+fn char_of(part: &[u8], count: u64, used: usize) -> Item
+    requires { ⌜ used + length (now part) < 2 ^ 64 ⌝ }
+    ensures { λ r. ⌜ r ≡ charOf count used (now (part .entry)) ⌝ }
+{
+    if 4 < count {
+        return Item::Refused { why: Refusal::Char };
+    }
+    let n = count as usize;
+    if part.len() < n {
+        return Item::Refused { why: Refusal::End };
+    }
+    let bytes = &part[..n];
+    let ok = is_text(bytes);
+    if !ok {
+        return Item::Refused { why: Refusal::Char };
+    }
+    if n == 0 {
+        return Item::Refused { why: Refusal::Char };
+    }
+    let first = first_char(bytes);
+    let end = used + n;
+    Item::Took {
+        first,
+        second: 0,
+        used: end,
+    }
+}
+
+// The char at the start of `part`.
+pub fn take_char(part: &[u8]) -> Item
+    ensures { λ r. ⌜ r ≡ readLeaf char (now (part .entry)) ⌝ }
+{
+    let got = varint::take(part, varint::U64::MOST, varint::U64::LAST);
+    let Item::Took {
+        first,
+        second: _,
+        used,
+    } = got
+    else {
+        return got;
+    };
+    char_of(&part[used..], first, used)
+}
+
+// Whether bytes may stand where a text is wanted, or any bytes are.
+pub fn is_content(part: &[u8], text: bool) -> bool
+    ensures { λ r. ⌜ r ≡ isContent (contentIf text) (now (part .entry)) ⌝ }
+{
+    if text {
+        return is_text(part);
+    }
+    true
+}
+
+// A text or bytes of `count` bytes, behind a count that took `used`, with which the offset begins.
+fn content_of(part: &[u8], count: u64, used: usize, text: bool) -> Item
+    requires { ⌜ used + length (now part) < 2 ^ 64 ⌝ }
+    ensures { λ r. ⌜ r ≡ contentOf (contentIf text) 0 count used (now (part .entry)) ⌝ }
+{
+    if (part.len() as u64) < count {
+        return Item::Refused { why: Refusal::End };
+    }
+    let n = count as usize;
+    let ok = is_content(&part[..n], text);
+    if !ok {
+        return Item::Refused { why: Refusal::Utf8 };
+    }
+    let end = used + n;
+    Item::Took {
+        first: used as u64,
+        second: count,
+        used: end,
+    }
+}
+
+// The text, or the bytes, at the start of `part`, from which the offset is counted.
+pub fn take_content(part: &[u8], text: bool) -> Item
+    ensures { λ r. ⌜ r ≡ head (pooled (contentIf text)) 0 0 (now (part .entry)) ⌝ }
+{
+    let got = varint::take(part, varint::U64::MOST, varint::U64::LAST);
+    let Item::Took {
+        first,
+        second: _,
+        used,
+    } = got
+    else {
+        return got;
+    };
+    content_of(&part[used..], first, used, text)
 }

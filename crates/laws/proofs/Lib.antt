@@ -12,6 +12,7 @@ pub mod Runs
 pub mod Beside
 pub mod Longer
 pub mod Numbering
+pub mod Unique
 pub mod Tables
 pub mod Children
 pub mod Numbers

@@ -1,0 +1,150 @@
+// Varints of three widths: low seven bits first, high bit set if more follow.
+use wire::Item;
+use wire::Refusal;
+ghost use mathlib.Core.Path.{_≡_};
+ghost use Prim.Native.Nat.{_+_};
+ghost use lib.ListN.{length, set};
+ghost use Rattle.wire.specs.Shape.{w16, w32, w64};
+ghost use Rattle.wire.specs.Numbers.{varint, shortest};
+ghost use Rattle.varint.specs.Takes.{limitOf, takes};
+ghost use Rattle.varint.specs.Put.{Put};
+
+// Each width owns two constants: the most bytes, and the largest byte that may stand last there.
+pub struct U16;
+
+pub struct U32;
+
+pub struct U64;
+
+impl U16 {
+    pub const MOST: usize = 3;
+
+    pub const LAST: u64 = 3;
+}
+
+impl U32 {
+    pub const MOST: usize = 5;
+
+    pub const LAST: u64 = 15;
+}
+
+impl U64 {
+    pub const MOST: usize = 10;
+
+    pub const LAST: u64 = 1;
+}
+
+// What the last of `most` bytes must be below for every value to fit a word.
+fn limit(most: usize) -> u64
+    ensures { λ r. ⌜ r ≡ limitOf most ⌝ }
+{
+    match most {
+        1..=9 => 128,
+        10 => 2,
+        _ => 0,
+    }
+}
+
+// A varint of at most `most` bytes at the start of `part`, of which the last allowed is at most `last`. At a width's
+// constants the compiler folds the test: a caller that must be fast names them here.
+pub fn take(part: &[u8], most: usize, last: u64) -> Item
+    ensures { λ r. ⌜ r ≡ takes most last (now (part .entry)) ⌝ }
+{
+    if limit(most) <= last {
+        return Item::Refused {
+            why: Refusal::Varint,
+        };
+    }
+    let mut value: u64 = 0;
+    let mut scale: u64 = 1;
+    let mut i: usize = 0;
+    while i < part.len() {
+        let b = part[i] as u64;
+        let next = i + 1;
+        if next == most {
+            if b <= last {
+                let whole = value + scale * b;
+                return Item::Took {
+                    first: whole,
+                    second: 0,
+                    used: next,
+                };
+            }
+            return Item::Refused {
+                why: Refusal::Varint,
+            };
+        }
+        let sum = value + scale * (b % 128);
+        if b < 128 {
+            return Item::Took {
+                first: sum,
+                second: 0,
+                used: next,
+            };
+        }
+        value = sum;
+        scale = scale * 128;
+        i = next;
+    }
+    Item::Refused { why: Refusal::End }
+}
+
+pub fn take_u16(part: &[u8]) -> Item
+    ensures { λ r. ⌜ r ≡ varint w16 (now (part .entry)) ⌝ }
+{
+    take(part, U16::MOST, U16::LAST)
+}
+
+pub fn take_u32(part: &[u8]) -> Item
+    ensures { λ r. ⌜ r ≡ varint w32 (now (part .entry)) ⌝ }
+{
+    take(part, U32::MOST, U32::LAST)
+}
+
+pub fn take_u64(part: &[u8]) -> Item
+    ensures { λ r. ⌜ r ≡ varint w64 (now (part .entry)) ⌝ }
+{
+    take(part, U64::MOST, U64::LAST)
+}
+
+// Stores a byte at the n-th place behind `at`, if `out` has that place.
+fn put_byte(out: &mut [u8], at: usize, n: usize, b: u8)
+    ensures { λ r. ⌜ now (out .exit) ≡ set (now (out .entry)) (at + n) b ⌝ }
+{
+    if at < out.len() {
+        if n < out.len() - at {
+            let i = at + n;
+            out[i] = b;
+        }
+    }
+}
+
+// Stores the shortest form of `x` in `out` from `at` on, as far as `out` has places, and returns its size.
+pub fn put(out: &mut [u8], at: usize, x: u64) -> usize
+    ensures { λ r. ⌜ Put (now (out .entry)) at x (now (out .exit)) r ⌝ }
+{
+    let mut n: usize = 0;
+    let mut rest = x;
+    while 128 <= rest {
+        let b = (rest % 128 + 128) as u8;
+        put_byte(out, at, n, b);
+        rest = rest / 128;
+        n = n + 1;
+    }
+    let b = rest as u8;
+    put_byte(out, at, n, b);
+    n + 1
+}
+
+// How many bytes the shortest form of `x` has.
+pub fn size(x: u64) -> usize
+    ensures { λ r. ⌜ r ≡ length (shortest x) ⌝ }
+{
+    let mut n: usize = 0;
+    let mut rest = x;
+    while 128 <= rest {
+        rest = rest / 128;
+        n = n + 1;
+    }
+    n + 1
+}

@@ -1,0 +1,363 @@
+//! Reads and writes messages by a schema table, through Reystavem's proved static library.
+//!
+//! Every function may be given any bytes: it answers, or refuses with the number and the place that
+//! document 01 fixes. Nothing here panics on what a message or a table holds.
+//!
+//! ```
+//! # let table = reystavem::samples::TABLE_T;
+//! let mut store = [0u64; 8];
+//! let read = reystavem::read(table, &[0xac, 0x02, 0x05, 0x03, 0x07], &mut store).unwrap();
+//! assert_eq!(read.count, 4);
+//! assert_eq!(read.rest, [0x07]);
+//! assert_eq!(store[2..4], [300, 0]);
+//! ```
+
+mod ffi {
+    extern "C" {
+        pub fn reystavem_check(table: *const u8, table_len: usize, place: *mut u64) -> u64;
+        pub fn reystavem_read(
+            table: *const u8,
+            table_len: usize,
+            message: *const u8,
+            message_len: usize,
+            store: *mut u64,
+            store_words: usize,
+            place: *mut u64,
+            count: *mut u64,
+        ) -> u64;
+        pub fn reystavem_write(
+            table: *const u8,
+            table_len: usize,
+            words: *const u64,
+            words_len: usize,
+            pool: *const u8,
+            pool_len: usize,
+            out: *mut u8,
+            out_len: usize,
+            place: *mut u64,
+        ) -> u64;
+        pub fn reystavem_append(
+            old_table: *const u8,
+            old_len: usize,
+            new_table: *const u8,
+            new_len: usize,
+            place: *mut u64,
+            which: *mut u64,
+            yes: *mut u64,
+        ) -> u64;
+        pub fn reystavem_feed(
+            array: *mut u8,
+            array_len: usize,
+            chunk: *const u8,
+            chunk_len: usize,
+            message: *mut u8,
+            message_len: usize,
+            idx: *mut u64,
+            len: *mut u64,
+            rest_from: *mut u64,
+        ) -> u64;
+        pub fn reystavem_take(
+            kind: u64,
+            message: *const u8,
+            message_len: usize,
+            place: *mut u64,
+            first: *mut u64,
+            second: *mut u64,
+        ) -> u64;
+    }
+}
+
+/// Why a call refuses, with document 01's number.
+#[derive(Clone, Copy, Debug, PartialEq, Eq)]
+#[repr(u8)]
+pub enum Why {
+    /// The table's trailer isn't good.
+    Trailer = 1,
+    /// A record of the table isn't good.
+    Record = 2,
+    /// The message ends inside an item.
+    End = 3,
+    /// A varint is too long or too large.
+    Varint = 4,
+    /// A bool is neither 0 nor 1.
+    Bool = 5,
+    /// A char isn't one.
+    Char = 6,
+    /// A text isn't UTF-8.
+    Utf8 = 7,
+    /// An option is neither 0 nor 1.
+    Option = 8,
+    /// A variant's number isn't in the table.
+    Variant = 9,
+    /// The store has no room for an item's entry.
+    Room = 10,
+    /// A value list doesn't fit the table.
+    Values = 11,
+    /// The output is too short.
+    Full = 12,
+}
+
+impl Why {
+    fn of(number: u64) -> Why {
+        match number {
+            1 => Why::Trailer,
+            2 => Why::Record,
+            3 => Why::End,
+            4 => Why::Varint,
+            5 => Why::Bool,
+            6 => Why::Char,
+            7 => Why::Utf8,
+            8 => Why::Option,
+            9 => Why::Variant,
+            10 => Why::Room,
+            11 => Why::Values,
+            12 => Why::Full,
+            _ => unreachable!("the library's contract has no other number"),
+        }
+    }
+}
+
+/// A refusal and its place: a node, a byte of the message or an entry, as its reason says.
+#[derive(Clone, Copy, Debug, PartialEq, Eq)]
+pub struct Refused {
+    pub why: Why,
+    pub place: usize,
+}
+
+fn refused(number: u64, place: u64) -> Refused {
+    Refused {
+        why: Why::of(number),
+        place: place as usize,
+    }
+}
+
+/// Whether a table is good; else the reason and, for a record, its node.
+pub fn check(table: &[u8]) -> Result<(), Refused> {
+    let mut place = 0;
+    // SAFETY: the slice is lent with its own length, and `place` is ours.
+    let number = unsafe { ffi::reystavem_check(table.as_ptr(), table.len(), &mut place) };
+    match number {
+        0 => Ok(()),
+        _ => Err(refused(number, place)),
+    }
+}
+
+/// A message that was read: how many entries stand in front in the store, and the unread bytes.
+#[derive(Clone, Copy, Debug, PartialEq, Eq)]
+pub struct Read<'m> {
+    pub count: usize,
+    pub rest: &'m [u8],
+}
+
+/// A message that was refused, and how many entries were made before that.
+#[derive(Clone, Copy, Debug, PartialEq, Eq)]
+pub struct ReadRefused {
+    pub refused: Refused,
+    pub count: usize,
+}
+
+/// Reads a message into a store, two words an entry. Words behind the entries stay as they were.
+pub fn read<'m>(table: &[u8], message: &'m [u8], store: &mut [u64]) -> Result<Read<'m>, ReadRefused> {
+    let (mut place, mut count) = (0, 0);
+    // SAFETY: each slice is lent with its own length; `store` is borrowed for us alone.
+    let number = unsafe {
+        ffi::reystavem_read(
+            table.as_ptr(),
+            table.len(),
+            message.as_ptr(),
+            message.len(),
+            store.as_mut_ptr(),
+            store.len(),
+            &mut place,
+            &mut count,
+        )
+    };
+    let count = count as usize;
+    match number {
+        0 => Ok(Read {
+            count,
+            rest: &message[place as usize..],
+        }),
+        _ => Err(ReadRefused {
+            refused: refused(number, place),
+            count,
+        }),
+    }
+}
+
+/// Writes a value list whose texts and bytes stand in the pool: how many bytes were written.
+/// On a refusal the output is unchanged.
+pub fn write(table: &[u8], words: &[u64], pool: &[u8], out: &mut [u8]) -> Result<usize, Refused> {
+    let mut place = 0;
+    // SAFETY: each slice is lent with its own length; `out` is borrowed for us alone.
+    let number = unsafe {
+        ffi::reystavem_write(
+            table.as_ptr(),
+            table.len(),
+            words.as_ptr(),
+            words.len(),
+            pool.as_ptr(),
+            pool.len(),
+            out.as_mut_ptr(),
+            out.len(),
+            &mut place,
+        )
+    };
+    match number {
+        0 => Ok(place as usize),
+        _ => Err(refused(number, place)),
+    }
+}
+
+/// One of the append question's two tables.
+#[derive(Clone, Copy, Debug, PartialEq, Eq)]
+pub enum Side {
+    Old,
+    New,
+}
+
+/// Whether the new table only appends variants to enums and fields to the root struct of the old one.
+pub fn appends(old: &[u8], new: &[u8]) -> Result<bool, (Side, Refused)> {
+    let (mut place, mut which, mut yes) = (0, 0, 0);
+    // SAFETY: each slice is lent with its own length.
+    let number = unsafe {
+        ffi::reystavem_append(
+            old.as_ptr(),
+            old.len(),
+            new.as_ptr(),
+            new.len(),
+            &mut place,
+            &mut which,
+            &mut yes,
+        )
+    };
+    match (number, which) {
+        (0, _) => Ok(yes == 1),
+        (_, 0) => Err((Side::Old, refused(number, place))),
+        (_, _) => Err((Side::New, refused(number, place))),
+    }
+}
+
+/// How many bytes a frame may have, its closing zero among them.
+pub const ROOM: usize = 256;
+
+/// Collects chunks of a stream until a frame's closing zero.
+#[derive(Clone, Copy, Debug, PartialEq, Eq)]
+pub struct Accumulator {
+    pub array: [u8; ROOM],
+    pub idx: u64,
+}
+
+/// What a feed answers.
+#[derive(Clone, Copy, Debug, PartialEq, Eq)]
+pub enum Fed {
+    /// 20: the chunk is taken, and the frame goes on.
+    Consumed,
+    /// 21: the frame is longer than the room.
+    OverFull,
+    /// 22: the frame can't be decoded.
+    BadFrame,
+    /// 23: a frame's message, of so many bytes, with zeros behind it.
+    Frame { message: [u8; ROOM], len: usize },
+    /// 24: the state says that more is filled than there is.
+    BadState,
+}
+
+impl Default for Accumulator {
+    fn default() -> Self {
+        Accumulator::new()
+    }
+}
+
+impl Accumulator {
+    pub fn new() -> Self {
+        Accumulator { array: [0; ROOM], idx: 0 }
+    }
+
+    /// Feeds a chunk: the answer, and the part of the chunk that is still to be fed.
+    pub fn feed<'c>(&mut self, chunk: &'c [u8]) -> (Fed, &'c [u8]) {
+        let mut message = [0; ROOM];
+        let (mut len, mut from) = (0, 0);
+        // SAFETY: each slice is lent with its own length; array and message are borrowed for us alone.
+        let number = unsafe {
+            ffi::reystavem_feed(
+                self.array.as_mut_ptr(),
+                ROOM,
+                chunk.as_ptr(),
+                chunk.len(),
+                message.as_mut_ptr(),
+                ROOM,
+                &mut self.idx,
+                &mut len,
+                &mut from,
+            )
+        };
+        let fed = match number {
+            20 => Fed::Consumed,
+            21 => Fed::OverFull,
+            22 => Fed::BadFrame,
+            23 => Fed::Frame {
+                message,
+                len: len as usize,
+            },
+            _ => Fed::BadState,
+        };
+        (fed, &chunk[from as usize..])
+    }
+}
+
+/// An item's two words.
+#[derive(Clone, Copy, Debug, PartialEq, Eq)]
+pub struct Entry {
+    pub first: u64,
+    pub second: u64,
+}
+
+/// A message and a place in it, from which single items are taken.
+#[derive(Clone, Copy, Debug, PartialEq, Eq)]
+pub struct Deserializer<'m> {
+    message: &'m [u8],
+    place: u64,
+}
+
+impl<'m> Deserializer<'m> {
+    pub fn new(message: &'m [u8]) -> Self {
+        Deserializer { message, place: 0 }
+    }
+
+    /// Takes one item of kind 0 to 13 or 20 to 31 and goes behind it. A refusal keeps the place.
+    pub fn take(&mut self, kind: u64) -> Result<Entry, Refused> {
+        let (mut first, mut second) = (0, 0);
+        let before = self.place;
+        // SAFETY: the slice is lent with its own length; the numbers are ours.
+        let number = unsafe {
+            ffi::reystavem_take(
+                kind,
+                self.message.as_ptr(),
+                self.message.len(),
+                &mut self.place,
+                &mut first,
+                &mut second,
+            )
+        };
+        match number {
+            0 => Ok(Entry { first, second }),
+            2 => Err(refused(number, 0)),
+            _ => Err(refused(number, before)),
+        }
+    }
+
+    /// The bytes from the place on.
+    pub fn rest(&self) -> &'m [u8] {
+        self.message.get(self.place as usize..).unwrap_or(&[])
+    }
+}
+
+/// Tables to try things with.
+pub mod samples {
+    /// Document 01's table T: a struct of a store (u32), a product (u64) and a count (i32).
+    pub const TABLE_T: &[u8] = &[
+        0x07, 0, 0, 0, 0, 0, 0x08, 0, 0, 0, 0, 0, 0x03, 0, 0, 0, 0, 0, 0x12, 0, 0, 0, 3, 0, 0, 0, 1, 0, 2, 0, 6, 0,
+        0x1e, 0, 4, 0, 3, 0, 0x53, 0x50,
+    ];
+}

@@ -1,0 +1,98 @@
+//! Document 01's cases and a refusal of each call, through the static library.
+use reystavem::samples::TABLE_T;
+use reystavem::*;
+
+const MINUS_TWO: u64 = u64::MAX - 1;
+
+fn leaf(kind: u8) -> Vec<u8> {
+    vec![kind, 0, 0, 0, 0, 0, 0, 0, 6, 0, 1, 0, 0, 0, 0x53, 0x50]
+}
+
+fn four_fields(children: [u8; 8]) -> Vec<u8> {
+    let mut table = TABLE_T[..18].to_vec();
+    table.extend([0x12, 0, 0, 0, 4, 0]);
+    table.extend(children);
+    table.extend([8, 0, 32, 0, 4, 0, 3, 0, 0x53, 0x50]);
+    table
+}
+
+#[test]
+fn a_good_table_and_two_bad_ones() {
+    assert_eq!(check(TABLE_T), Ok(()));
+    assert_eq!(check(&[]), Err(Refused { why: Why::Trailer, place: 0 }));
+    assert_eq!(check(&leaf(32)), Err(Refused { why: Why::Record, place: 0 }));
+}
+
+#[test]
+fn a_message_its_rest_and_the_words_behind() {
+    let mut store = [7; 9];
+    let got = read(TABLE_T, &[0xac, 0x02, 0x05, 0x03, 0x07], &mut store).unwrap();
+    assert_eq!(got, Read { count: 4, rest: &[0x07] });
+    assert_eq!(store, [0, 0, 300, 0, 5, 0, MINUS_TWO, 0, 7]);
+}
+
+#[test]
+fn a_message_that_ends_inside() {
+    let mut store = [7; 9];
+    let got = read(TABLE_T, &[0xac, 0x02, 0x05], &mut store);
+    let refused = Refused { why: Why::End, place: 3 };
+    assert_eq!(got, Err(ReadRefused { refused, count: 3 }));
+    assert_eq!(store, [0, 0, 300, 0, 5, 0, 7, 7, 7]);
+}
+
+#[test]
+fn the_shortest_form_is_written() {
+    let mut out = [7; 4];
+    assert_eq!(write(&leaf(2), &[u64::MAX - 32767, 0], &[], &mut out), Ok(3));
+    assert_eq!(out, [0xff, 0xff, 0x03, 7]);
+    let full = Refused { why: Why::Full, place: 0 };
+    assert_eq!(write(&leaf(2), &[u64::MAX - 32767, 0], &[], &mut out[..2]), Err(full));
+}
+
+#[test]
+fn what_was_written_is_read_back() {
+    let words = [0, 0, 300, 0, 5, 0, MINUS_TWO, 0];
+    let mut out = [0; 16];
+    let len = write(TABLE_T, &words, &[], &mut out).unwrap();
+    let mut store = [0; 8];
+    assert_eq!(read(TABLE_T, &out[..len], &mut store).unwrap().rest, []);
+    assert_eq!(store, words);
+}
+
+#[test]
+fn a_field_in_front_is_no_and_at_the_end_yes() {
+    let in_front = four_fields([0, 0, 0, 0, 1, 0, 2, 0]);
+    let at_end = four_fields([0, 0, 1, 0, 2, 0, 0, 0]);
+    assert_eq!(appends(TABLE_T, &in_front), Ok(false));
+    assert_eq!(appends(TABLE_T, &at_end), Ok(true));
+    let record = Refused { why: Why::Record, place: 0 };
+    assert_eq!(appends(TABLE_T, &leaf(32)), Err((Side::New, record)));
+    assert_eq!(appends(&leaf(32), &[]), Err((Side::Old, record)));
+}
+
+#[test]
+fn frames_in_chunks() {
+    let mut accumulator = Accumulator::new();
+    assert_eq!(accumulator.feed(&[0x03, 0x11]), (Fed::Consumed, &[][..]));
+    let (fed, rest) = accumulator.feed(&[0x22, 0x02, 0x33, 0x00, 0x05]);
+    let Fed::Frame { message, len } = fed else { panic!("{fed:?}") };
+    assert_eq!(message[..len], [0x11, 0x22, 0x00, 0x33]);
+    assert_eq!(message[len..], [0; 252]);
+    assert_eq!(rest, [0x05]);
+    assert_eq!(accumulator.idx, 0);
+    let mut made_up = Accumulator { array: [9; 256], idx: 257 };
+    assert_eq!(made_up.feed(&[0]), (Fed::BadState, &[0][..]));
+    let mut nearly = Accumulator { array: [9; 256], idx: 250 };
+    let chunk = [1, 2, 3, 4, 5, 6, 7, 8, 9, 10];
+    assert_eq!(nearly.feed(&chunk), (Fed::OverFull, &[7, 8, 9, 10][..]));
+}
+
+#[test]
+fn single_items() {
+    let mut items = Deserializer::new(&[0x05, 0x02, 0x61, 0x62, 0x80]);
+    assert_eq!(items.take(5), Ok(Entry { first: 5, second: 0 }));
+    assert_eq!(items.take(12), Ok(Entry { first: 2, second: 2 }));
+    assert_eq!(items.take(14), Err(Refused { why: Why::Record, place: 0 }));
+    assert_eq!(items.take(6), Err(Refused { why: Why::End, place: 4 }));
+    assert_eq!(items.rest(), [0x80]);
+}

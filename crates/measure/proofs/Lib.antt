@@ -1,0 +1,2 @@
+-- What the loop needs of a varint.
+pub mod Steps

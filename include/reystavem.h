@@ -1,0 +1,59 @@
+/* Reystavem: reading and writing messages by a schema table, as a static library (libexports.a).
+ *
+ * Every call may be given any bytes. It returns document 01's number: 0 is done, 1 to 12 a refusal,
+ * 20 to 24 a feed's answer. A pointer with its length is a lent slice: it must be valid for that
+ * length and, where it isn't const, overlap no other. A length may be 0; the pointer is then not
+ * read, but mustn't be null.
+ */
+#ifndef REYSTAVEM_H
+#define REYSTAVEM_H
+
+#include <stddef.h>
+#include <stdint.h>
+
+#ifdef __cplusplus
+extern "C" {
+#endif
+
+/* Whether a table is good: 0, 1 or 2. *place: the first bad node, else 0. */
+uint64_t reystavem_check(const uint8_t *table, size_t table_len, uint64_t *place);
+
+/* Reads a message into a store of u64 words, two an entry. *place: bytes read, or the place of the
+ * refusal. *count: entries made, which stand in front in the store; later words are as before. On 0
+ * the rest of the message begins at *place. */
+uint64_t reystavem_read(const uint8_t *table, size_t table_len,
+                        const uint8_t *message, size_t message_len,
+                        uint64_t *store, size_t store_words,
+                        uint64_t *place, uint64_t *count);
+
+/* Writes a value list, whose texts and bytes stand in the pool. *place: bytes written, or the place
+ * of the refusal. On a refusal the output is unchanged, on 0 only the bytes written changed. */
+uint64_t reystavem_write(const uint8_t *table, size_t table_len,
+                         const uint64_t *words, size_t words_len,
+                         const uint8_t *pool, size_t pool_len,
+                         uint8_t *out, size_t out_len, uint64_t *place);
+
+/* Whether a new table only appends to an old one. *yes: 1 or 0, 0 on a refusal. *which: the table
+ * that is refused, 0 old, 1 new. *place: its first bad node, else 0. */
+uint64_t reystavem_append(const uint8_t *old_table, size_t old_len,
+                          const uint8_t *new_table, size_t new_len,
+                          uint64_t *place, uint64_t *which, uint64_t *yes);
+
+/* Feeds a chunk to an accumulator: its array of 256 bytes and how much of that is filled. The message
+ * (256 bytes too) is written whole: a frame's message of *len bytes, and zeros behind it. *rest_from:
+ * where the chunk's rest begins. A slice of another length: 24, nothing changed. */
+uint64_t reystavem_feed(uint8_t *array, size_t array_len,
+                        const uint8_t *chunk, size_t chunk_len,
+                        uint8_t *message, size_t message_len,
+                        uint64_t *idx, uint64_t *len, uint64_t *rest_from);
+
+/* Takes one item of kind 0 to 13 or 20 to 31 at *place: moved behind the item on 0, kept on a refusal.
+ * *first and *second: the item's entry, 0 on a refusal. */
+uint64_t reystavem_take(uint64_t kind, const uint8_t *message, size_t message_len,
+                        uint64_t *place, uint64_t *first, uint64_t *second);
+
+#ifdef __cplusplus
+}
+#endif
+
+#endif

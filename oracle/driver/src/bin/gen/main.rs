@@ -1,0 +1,65 @@
+//! `gen SEED COUNT` prints COUNT request lines for `oracle` (PROTOCOL.md), always the same
+//! ones for the same seed: first a fixed part of edge cases, then random rounds.
+
+mod edges;
+mod forms;
+mod rounds;
+mod tables;
+
+use oracle_driver::proto::{hex, words_text};
+use oracle_driver::rng::Rng;
+use std::io::{self, BufWriter, Write};
+
+fn main() {
+    let mut args = std::env::args().skip(1).map(|a| a.parse::<u64>().expect("gen SEED COUNT, both decimal"));
+    let (Some(seed), Some(count)) = (args.next(), args.next()) else {
+        eprintln!("usage: gen SEED COUNT");
+        std::process::exit(2)
+    };
+    let mut g = Gen { rng: Rng(seed), left: count, out: BufWriter::new(io::stdout().lock()) };
+    // Err means: enough lines, or nobody listens any more.
+    let _ = g.all();
+    let _ = g.out.flush();
+}
+
+/// Enough has been printed.
+struct Enough;
+type Go = Result<(), Enough>;
+
+struct Gen {
+    rng: Rng,
+    left: u64,
+    out: BufWriter<io::StdoutLock<'static>>,
+}
+
+impl Gen {
+    fn line(&mut self, text: std::fmt::Arguments) -> Go {
+        if self.left == 0 {
+            return Err(Enough);
+        }
+        self.left -= 1;
+        writeln!(self.out, "{text}").map_err(|_| Enough)
+    }
+    fn read(&mut self, file: &[u8], message: &[u8], room: u64) -> Go {
+        self.line(format_args!("R {} {} {room:x}", hex(file), hex(message)))
+    }
+    fn write(&mut self, file: &[u8], words: &[u64], pool: &[u8], out_len: usize) -> Go {
+        self.line(format_args!("W {} {} {} {out_len:x}", hex(file), words_text(words), hex(pool)))
+    }
+    fn append(&mut self, old: &[u8], new: &[u8]) -> Go {
+        self.line(format_args!("A {} {}", hex(old), hex(new)))
+    }
+    fn feed(&mut self, idx: u64, array: &[u8], chunk: &[u8]) -> Go {
+        self.line(format_args!("F {idx:x} {} {}", hex(array), hex(chunk)))
+    }
+    fn take(&mut self, kind: u8, message: &[u8], place: u64) -> Go {
+        self.line(format_args!("T {kind:x} {} {place:x}", hex(message)))
+    }
+
+    fn all(&mut self) -> Go {
+        self.edges()?;
+        loop {
+            self.round()?;
+        }
+    }
+}

@@ -1,0 +1,315 @@
+//! 01's wire rules written out once more WITHOUT the crate, to find where the two differ.
+//! Nothing here is the oracle; `oracle check` compares it with the oracle line by line.
+
+use crate::table::{self, Table};
+use crate::{Entry, ReadAnswer, Refusal};
+
+/// 01's two constants for each varint width: most bytes, largest last byte.
+#[derive(Clone, Copy, Debug)]
+pub struct Width(pub usize, pub u8);
+pub const W16: Width = Width(3, 3);
+pub const W32: Width = Width(5, 15);
+pub const W64: Width = Width(10, 1);
+
+/// Value and bytes used, or answer 3 or 4.
+pub fn varint(width: Width, m: &[u8]) -> Result<(u64, usize), u8> {
+    let mut value = 0u64;
+    for i in 0..width.0 {
+        let &b = m.get(i).ok_or(3u8)?;
+        if i == width.0 - 1 && b > width.1 {
+            return Err(4);
+        }
+        value += u64::from(b % 128) << (7 * i);
+        if b < 128 {
+            return Ok((value, i + 1));
+        }
+    }
+    unreachable!("a last allowed byte with its high bit set is over the largest")
+}
+
+/// The width of the UTF-8 sequence that a lead byte starts, 0 where none starts.
+pub fn lead(b: u8) -> usize {
+    match b {
+        0x00..=0x7F => 1,
+        0xC2..=0xDF => 2,
+        0xE0..=0xEF => 3,
+        0xF0..=0xF4 => 4,
+        _ => 0,
+    }
+}
+
+/// The first character's code point and width, or None if no good sequence starts here.
+pub fn first_char(m: &[u8]) -> Option<(u32, usize)> {
+    let b0 = *m.first()?;
+    let width = lead(b0);
+    if width == 0 || m.len() < width {
+        return None;
+    }
+    let second = match b0 {
+        0xE0 => 0xA0..=0xBF,
+        0xED => 0x80..=0x9F,
+        0xF0 => 0x90..=0xBF,
+        0xF4 => 0x80..=0x8F,
+        _ => 0x80..=0xBF,
+    };
+    let mut code = u32::from(b0) & [0, 0x7F, 0x1F, 0x0F, 0x07][width];
+    for (i, &b) in m[1..width].iter().enumerate() {
+        let good = if i == 0 { second.contains(&b) } else { (0x80..=0xBF).contains(&b) };
+        if !good {
+            return None;
+        }
+        code = code * 64 + u32::from(b & 0x3F);
+    }
+    Some((code, width))
+}
+
+pub fn utf8(mut m: &[u8]) -> bool {
+    while !m.is_empty() {
+        let Some((_, width)) = first_char(m) else { return false };
+        m = &m[width..];
+    }
+    true
+}
+
+struct Reader<'m> {
+    table: &'m Table,
+    room: usize,
+    entries: Vec<Entry>,
+}
+
+impl Reader<'_> {
+    /// Reads the item that starts at `at`, gives the place behind it and its children.
+    fn item(&mut self, node: usize, m: &[u8], at: usize) -> Result<usize, Refusal> {
+        if self.entries.len() >= self.room {
+            return Err(Refusal { no: 10, place: at });
+        }
+        let (entry, used) = self.own(node, &m[at..], at).map_err(|no| Refusal { no, place: at })?;
+        self.entries.push(entry);
+        let mut at = at + used;
+        let table = self.table;
+        let node = &table.nodes[node];
+        match node.kind {
+            table::OPTION if entry[0] == 1 => at = self.item(node.kids[0], m, at)?,
+            table::SEQ | table::MAP => {
+                for _ in 0..entry[0] {
+                    for &k in &node.kids {
+                        at = self.item(k, m, at)?;
+                    }
+                }
+            }
+            table::STRUCT => {
+                for &k in &node.kids {
+                    at = self.item(k, m, at)?;
+                }
+            }
+            table::ENUM => at = self.item(node.kids[entry[0] as usize], m, at)?,
+            _ => {}
+        }
+        Ok(at)
+    }
+
+    /// The item's own bytes, which are the first of `m`: its entry and how many there are.
+    fn own(&self, node: usize, m: &[u8], at: usize) -> Result<(Entry, usize), u8> {
+        let node = &self.table.nodes[node];
+        let plain = |(value, used): (u64, usize)| ([value, 0], used);
+        let zigzag = |(z, used): (u64, usize)| {
+            let x = if z % 2 == 0 { z / 2 } else { (z / 2 + 1).wrapping_neg() };
+            ([x, 0], used)
+        };
+        let little = |len: usize| -> Result<u64, u8> {
+            let b = m.get(..len).ok_or(3u8)?;
+            Ok(b.iter().rev().fold(0, |v, &b| v << 8 | u64::from(b)))
+        };
+        let big = |len: usize| -> Result<u64, u8> {
+            let b = m.get(..len).ok_or(3u8)?;
+            Ok(b.iter().fold(0, |v, &b| v << 8 | u64::from(b)))
+        };
+        let sign = |v: u64, len: usize| {
+            let bits = 8 * len as u32;
+            if bits < 64 && v >> (bits - 1) == 1 {
+                v.wrapping_sub(1 << bits)
+            } else {
+                v
+            }
+        };
+        let counted = || -> Result<(usize, usize), u8> {
+            let (len, used) = varint(W64, m)?;
+            // Compared with what is left; a hostile length is never added to anything.
+            if len > (m.len() - used) as u64 {
+                Err(3)
+            } else {
+                Ok((len as usize, used))
+            }
+        };
+        Ok(match node.kind {
+            table::BOOL | table::OPTION => match m.first() {
+                None => return Err(3),
+                Some(&b @ (0 | 1)) => ([b.into(), 0], 1),
+                Some(_) => return Err(if node.kind == table::BOOL { 5 } else { 8 }),
+            },
+            table::I8 => ([sign(little(1)?, 1), 0], 1),
+            table::U8 => ([little(1)?, 0], 1),
+            table::I16 => zigzag(varint(W16, m)?),
+            table::I32 => zigzag(varint(W32, m)?),
+            table::I64 => zigzag(varint(W64, m)?),
+            table::U16 => plain(varint(W16, m)?),
+            table::U32 => plain(varint(W32, m)?),
+            table::U64 | table::SEQ | table::MAP => plain(varint(W64, m)?),
+            table::F32 => ([little(4)?, 0], 4),
+            table::F64 => ([little(8)?, 0], 8),
+            table::CHAR => {
+                let (len, used) = varint(W64, m)?;
+                if len > 4 {
+                    return Err(6);
+                }
+                let bytes = m[used..].get(..len as usize).ok_or(3u8)?;
+                if !utf8(bytes) {
+                    return Err(6);
+                }
+                let (code, _) = first_char(bytes).ok_or(6u8)?;
+                ([code.into(), 0], used + len as usize)
+            }
+            table::STR | table::BYTES => {
+                let (len, used) = counted()?;
+                if node.kind == table::STR && !utf8(&m[used..used + len]) {
+                    return Err(7);
+                }
+                ([(at + used) as u64, len as u64], used + len)
+            }
+            table::UNIT | table::STRUCT => ([0, 0], 0),
+            table::ENUM => {
+                let (number, used) = varint(W32, m)?;
+                if number >= node.kids.len() as u64 {
+                    return Err(9);
+                }
+                ([number, 0], used)
+            }
+            kind @ 20..=31 => {
+                let i = (kind - 20) % 6;
+                let len = [2, 4, 8][usize::from(i % 3)];
+                let v = if kind <= 25 { little(len)? } else { big(len)? };
+                ([if i < 3 { sign(v, len) } else { v }, 0], len)
+            }
+            _ => unreachable!("checked table"),
+        })
+    }
+}
+
+pub fn read<'m>(file: &[u8], message: &'m [u8], room: usize) -> ReadAnswer<'m> {
+    let table = match Table::parse(file) {
+        Ok(table) => table,
+        Err(Refusal { no, place }) => return ReadAnswer { no, place, entries: vec![], rest: &[] },
+    };
+    let mut reader = Reader { table: &table, room, entries: vec![] };
+    let done = reader.item(table.root, message, 0);
+    let entries = reader.entries;
+    match done {
+        Ok(place) => ReadAnswer { no: 0, place, entries, rest: &message[place..] },
+        Err(Refusal { no, place }) => ReadAnswer { no, place, entries, rest: &[] },
+    }
+}
+
+/// The shortest varint.
+pub fn shortest(mut value: u64) -> Vec<u8> {
+    let mut out = vec![];
+    while value >= 128 {
+        out.push(value as u8 | 0x80);
+        value >>= 7;
+    }
+    out.push(value as u8);
+    out
+}
+
+/// How a list is put on the wire; the generator has a style of its own for odd forms.
+pub trait Style {
+    fn varint(&mut self, _width: Width, value: u64) -> Vec<u8> {
+        shortest(value)
+    }
+    fn char(&mut self, code: u32) -> Vec<u8> {
+        let utf8 = encode_char(code);
+        let mut out = self.varint(W64, utf8.len() as u64);
+        out.extend(utf8);
+        out
+    }
+}
+
+pub struct Plain;
+impl Style for Plain {}
+
+pub fn encode_char(c: u32) -> Vec<u8> {
+    let tail = |shift: u32| 0x80 | (c >> shift & 0x3F) as u8;
+    match c {
+        0..=0x7F => vec![c as u8],
+        0x80..=0x7FF => vec![0xC0 | (c >> 6) as u8, tail(0)],
+        0x800..=0xFFFF => vec![0xE0 | (c >> 12) as u8, tail(6), tail(0)],
+        _ => vec![0xF0 | (c >> 18) as u8, tail(12), tail(6), tail(0)],
+    }
+}
+
+/// Writes a list that fits.
+pub fn write_good(table: &Table, entries: &[Entry], pool: &[u8], style: &mut impl Style) -> Vec<u8> {
+    let mut out = vec![];
+    let mut left = entries;
+    put(table, table.root, &mut left, pool, style, &mut out);
+    out
+}
+
+fn put(t: &Table, node: usize, left: &mut &[Entry], pool: &[u8], style: &mut impl Style, out: &mut Vec<u8>) {
+    let node = &t.nodes[node];
+    let [w0, w1] = left[0];
+    *left = &left[1..];
+    let zigzag = if (w0 as i64) < 0 { (w0.wrapping_neg() - 1) * 2 + 1 } else { w0 * 2 };
+    let little = w0.to_le_bytes();
+    match node.kind {
+        table::BOOL | table::OPTION | table::I8 | table::U8 => out.push(w0 as u8),
+        table::I16 => out.extend(style.varint(W16, zigzag)),
+        table::I32 => out.extend(style.varint(W32, zigzag)),
+        table::I64 => out.extend(style.varint(W64, zigzag)),
+        table::U16 => out.extend(style.varint(W16, w0)),
+        table::U32 | table::ENUM => out.extend(style.varint(W32, w0)),
+        table::U64 | table::SEQ | table::MAP => out.extend(style.varint(W64, w0)),
+        table::F32 => out.extend(&little[..4]),
+        table::F64 => out.extend(little),
+        table::CHAR => out.extend(style.char(w0 as u32)),
+        table::STR | table::BYTES => {
+            out.extend(style.varint(W64, w1));
+            out.extend(&pool[w0 as usize..(w0 + w1) as usize]);
+        }
+        table::UNIT | table::STRUCT => {}
+        kind => {
+            let len = [2, 4, 8][usize::from((kind - 20) % 3)];
+            let mut bytes = little[..len].to_vec();
+            if kind >= 26 {
+                bytes.reverse();
+            }
+            out.extend(bytes);
+        }
+    }
+    match node.kind {
+        table::OPTION if w0 == 0 => {}
+        table::SEQ | table::MAP => {
+            for _ in 0..w0 {
+                for &k in &node.kids {
+                    put(t, k, left, pool, style, out);
+                }
+            }
+        }
+        table::ENUM => put(t, node.kids[w0 as usize], left, pool, style, out),
+        _ => {
+            for &k in &node.kids {
+                put(t, k, left, pool, style, out);
+            }
+        }
+    }
+}
+
+pub fn write(file: &[u8], words: &[u64], pool: &[u8], out_len: usize) -> Result<Vec<u8>, Refusal> {
+    let table = Table::parse(file)?;
+    let entries = crate::write::entries_of(words)?;
+    crate::write::fit(&table, &entries, pool)?;
+    let wire = write_good(&table, &entries, pool, &mut Plain);
+    if wire.len() > out_len {
+        return Err(Refusal { no: 12, place: 0 });
+    }
+    Ok(wire)
+}

@@ -1,0 +1,102 @@
+//! The line protocol, see PROTOCOL.md.
+
+use crate::append::{appends, Which};
+use crate::feed::{feed, ROOM};
+use crate::{model, read, write, Entry, ReadAnswer, Refusal};
+use core::fmt::Write;
+
+pub fn hex(bytes: &[u8]) -> String {
+    if bytes.is_empty() {
+        return "-".into();
+    }
+    bytes.iter().fold(String::with_capacity(2 * bytes.len()), |mut s, b| {
+        let _ = write!(s, "{b:02x}");
+        s
+    })
+}
+
+pub fn unhex(s: &str) -> Result<Vec<u8>, String> {
+    if s == "-" {
+        return Ok(vec![]);
+    }
+    if !s.is_ascii() || s.len() % 2 == 1 {
+        return Err(format!("not hex bytes: {s}"));
+    }
+    (0..s.len()).step_by(2).map(|i| u8::from_str_radix(&s[i..i + 2], 16).map_err(|e| e.to_string())).collect()
+}
+
+fn number(s: &str) -> Result<u64, String> {
+    u64::from_str_radix(s, 16).map_err(|e| format!("{s}: {e}"))
+}
+
+pub fn words_text(words: &[u64]) -> String {
+    if words.is_empty() {
+        return "-".into();
+    }
+    words.iter().map(|w| format!("{w:x}")).collect::<Vec<_>>().join(",")
+}
+
+fn words(s: &str) -> Result<Vec<u64>, String> {
+    if s == "-" {
+        Ok(vec![])
+    } else {
+        s.split(',').map(number).collect()
+    }
+}
+
+fn entries_text(entries: &[Entry]) -> String {
+    if entries.is_empty() {
+        return "-".into();
+    }
+    entries.iter().map(|[a, b]| format!("{a:x},{b:x}")).collect::<Vec<_>>().join(" ")
+}
+
+fn read_text(a: &ReadAnswer) -> String {
+    format!("{} {:x} {:x} | {} | {}", a.no, a.place, a.entries.len(), entries_text(&a.entries), hex(a.rest))
+}
+
+fn write_text(a: &Result<Vec<u8>, Refusal>) -> String {
+    match a {
+        Ok(bytes) => format!("0 {:x} | {}", bytes.len(), hex(bytes)),
+        Err(Refusal { no, place }) => format!("{no} {place:x} | -"),
+    }
+}
+
+/// Answers one request line. With `from_document` the crate-free model answers R and W.
+pub fn answer(line: &str, from_document: bool) -> Result<String, String> {
+    let f: Vec<&str> = line.split_ascii_whitespace().collect();
+    match f[..] {
+        ["R", table, message, room] => {
+            let (table, message) = (unhex(table)?, unhex(message)?);
+            let read = if from_document { model::read } else { read::read };
+            Ok(read_text(&read(&table, &message, number(room)? as usize)))
+        }
+        ["W", table, list, pool, out_len] => {
+            let write = if from_document { model::write } else { write::write };
+            let out_len = number(out_len)? as usize;
+            Ok(write_text(&write(&unhex(table)?, &words(list)?, &unhex(pool)?, out_len)))
+        }
+        ["A", old, new] => Ok(match appends(&unhex(old)?, &unhex(new)?) {
+            Ok(true) => "yes".into(),
+            Ok(false) => "no".into(),
+            Err((Refusal { no, place }, which)) => {
+                format!("refuse {no} {place:x} {}", if which == Which::Old { "old" } else { "new" })
+            }
+        }),
+        ["F", idx, array, chunk] => {
+            let array: [u8; ROOM] = unhex(array)?.try_into().map_err(|_| "array is not 256 bytes")?;
+            let chunk = unhex(chunk)?;
+            let a = feed(number(idx)?, &array, &chunk);
+            Ok(format!("{} {:x} | {} | {} | {}", a.no, a.idx, hex(a.rest), hex(&a.message), hex(&a.array)))
+        }
+        ["T", kind, message, place] => {
+            let (kind, message, place) = (number(kind)?, unhex(message)?, number(place)? as usize);
+            let rest = |p: usize| hex(message.get(p..).unwrap_or(&[]));
+            Ok(match read::take(u8::try_from(kind).unwrap_or(u8::MAX), &message, place) {
+                Ok((entry, next)) => format!("0 {next:x} {next:x} | {} | {}", entries_text(&[entry]), rest(next)),
+                Err(Refusal { no, place: p }) => format!("{no} {p:x} {place:x} | - | {}", rest(place)),
+            })
+        }
+        _ => Err("unknown request".into()),
+    }
+}

@@ -1,0 +1,94 @@
+//! Facts about the real crate where the port's document (01) goes another way or is silent.
+//! Run: cargo test --offline --release -p oracle-driver
+
+use core::cell::Cell;
+use core::fmt;
+use postcard::{Deserializer, Error};
+use serde::de::{SeqAccess, Visitor};
+use serde::{Deserialize, Deserializer as _};
+
+/// What is left in the crate's deserializer after a refusal.
+fn left_after<'m, T: Deserialize<'m>>(m: &'m [u8]) -> (Error, &'m [u8]) {
+    let mut d = Deserializer::from_bytes(m);
+    let error = T::deserialize(&mut d).err().expect("a refusal");
+    (error, d.finalize().unwrap())
+}
+
+#[derive(Deserialize, Debug)]
+#[allow(dead_code)] // only its refusal is looked at
+struct Fixed(#[serde(with = "postcard::fixint::le")] u32);
+
+/// 01: a refusal keeps the place. The crate has moved its cursor past what it read.
+#[test]
+fn cursor_moves_on_refusal() {
+    assert_eq!(left_after::<u16>(&[0x80]), (Error::DeserializeUnexpectedEnd, &[][..]));
+    assert_eq!(left_after::<u16>(&[0x80, 0x80, 0x04, 9]), (Error::DeserializeBadVarint, &[9][..]));
+    assert_eq!(left_after::<bool>(&[2, 7]), (Error::DeserializeBadBool, &[7][..]));
+    assert_eq!(left_after::<&str>(&[5, 0x61]), (Error::DeserializeUnexpectedEnd, &[0x61][..]));
+    assert_eq!(left_after::<char>(&[5, 0x61]), (Error::DeserializeBadChar, &[0x61][..]));
+    assert_eq!(left_after::<Fixed>(&[1, 2]), (Error::DeserializeUnexpectedEnd, &[][..]));
+    // Floats are the exception: taken whole or not at all.
+    assert_eq!(left_after::<f32>(&[1, 2]), (Error::DeserializeUnexpectedEnd, &[1, 2][..]));
+}
+
+/// The count of a sequence is hidden from a visitor when it exceeds the bytes left.
+#[test]
+fn count_is_hidden() {
+    struct Hint<'a>(&'a Cell<Option<usize>>);
+    impl<'de> Visitor<'de> for Hint<'_> {
+        type Value = ();
+        fn expecting(&self, _: &mut fmt::Formatter) -> fmt::Result {
+            Ok(())
+        }
+        fn visit_seq<A: SeqAccess<'de>>(self, mut seq: A) -> Result<(), A::Error> {
+            self.0.set(seq.size_hint());
+            while seq.next_element::<()>()?.is_some() {}
+            Ok(())
+        }
+    }
+    for (m, hint) in [(&[1][..], None), (&[1, 9], Some(1)), (&[2, 9], None)] {
+        let got = Cell::new(Some(99));
+        Deserializer::from_bytes(m).deserialize_seq(Hint(&got)).unwrap();
+        assert_eq!(got.get(), hint);
+    }
+}
+
+/// 01's answer 9. The crate's users see serde's custom error, after the varint's own errors.
+#[test]
+fn unknown_variant() {
+    #[derive(Deserialize, Debug)]
+    enum Two {
+        A,
+        B,
+    }
+    let read = |m: &[u8]| postcard::from_bytes::<Two>(m).map(|t| matches!(t, Two::B) as u8 + matches!(t, Two::A) as u8);
+    assert_eq!(read(&[1]), Ok(1));
+    assert_eq!(read(&[2]), Err(Error::SerdeDeCustom));
+    assert_eq!(read(&[0x80, 0x80, 0x80, 0x80, 0x10]), Err(Error::DeserializeBadVarint));
+}
+
+/// 01: on 12 the output is unchanged. The crate leaves the part that fitted.
+#[test]
+fn full_output_is_touched() {
+    let mut out = [0xA5; 2];
+    assert_eq!(postcard::to_slice(&(1u8, 300u16), &mut out).err(), Some(Error::SerializeBufferFull));
+    assert_eq!(out, [1, 0xA5]);
+}
+
+/// Floats keep their bits, signalling NaN too.
+#[test]
+fn nan_bits() {
+    for bits in [0x7F80_0001u32, 0x7FA0_0000, 0xFFC0_0000] {
+        assert_eq!(postcard::from_bytes::<f32>(&bits.to_le_bytes()).unwrap().to_bits(), bits);
+    }
+    for bits in [0x7FF0_0000_0000_0001u64, 0x7FF4_0000_0000_0000] {
+        assert_eq!(postcard::from_bytes::<f64>(&bits.to_le_bytes()).unwrap().to_bits(), bits);
+    }
+}
+
+/// A text of no bytes has its offset behind the length byte.
+#[test]
+fn empty_text() {
+    let got = oracle_driver::read::read_good(&oracle_driver::table::Table::leaf(12), &[0], 1, vec![]);
+    assert_eq!((got.no, got.place, &got.entries[..]), (0, 1, &[[1, 0]][..]));
+}

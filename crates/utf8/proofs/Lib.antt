@@ -1,4 +1,5 @@
 -- The proofs of what specs/ states, and of the functions' contracts.
+pub mod Widths
 pub mod Scan
 pub mod Points
 pub mod Chars

@@ -71,6 +71,7 @@ enum Sequence {
 }
 
 // The sequence whose lead byte stands at a place. No sequence starts with 80 to C1 or with F5 to FF.
+// The place is a sum with a literal: with `wide`, the next sequence would wait for the table.
 fn after_lead(s: &[u8], at: usize, widths: &[[u8; 16]; 16]) -> Sequence
     requires { ⌜ Lead (now s) at (now widths) ⌝ }
     ensures { λ r. ⌜ After (now (s .entry)) at r ⌝ }
@@ -83,12 +84,12 @@ fn after_lead(s: &[u8], at: usize, widths: &[[u8; 16]; 16]) -> Sequence
     if s.len() - at < wide {
         return Sequence::Bad;
     }
-    let place = at + wide;
     let second = is_second(lead, s[at + 1]);
     if !second {
         return Sequence::Bad;
     }
     if wide == 2 {
+        let place = at + 2;
         return Sequence::Ends { place };
     }
     let third = is_in(s[at + 2], 0x80, 0xbf);
@@ -96,12 +97,14 @@ fn after_lead(s: &[u8], at: usize, widths: &[[u8; 16]; 16]) -> Sequence
         return Sequence::Bad;
     }
     if wide == 3 {
+        let place = at + 3;
         return Sequence::Ends { place };
     }
     let fourth = is_in(s[at + 3], 0x80, 0xbf);
     if !fourth {
         return Sequence::Bad;
     }
+    let place = at + 4;
     Sequence::Ends { place }
 }
 

@@ -15,7 +15,6 @@ ghost use Rattle.utf8.specs.Chars.{leadOf, overOf, Form};
 ghost use Rattle.utf8.specs.Contents.{contentIf};
 
 // How many bytes a sequence has that starts with a byte, 0 where none does. A row for each high half of the byte.
-// A use of a constant array makes it anew, so a text's check makes it once, and lends it.
 const WIDTHS: [[u8; 16]; 16] = [
     [1, 1, 1, 1, 1, 1, 1, 1, 1, 1, 1, 1, 1, 1, 1, 1], // 00
     [1, 1, 1, 1, 1, 1, 1, 1, 1, 1, 1, 1, 1, 1, 1, 1], // 10
@@ -34,6 +33,13 @@ const WIDTHS: [[u8; 16]; 16] = [
     [3, 3, 3, 3, 3, 3, 3, 3, 3, 3, 3, 3, 3, 3, 3, 3], // E0
     [4, 4, 4, 4, 4, 0, 0, 0, 0, 0, 0, 0, 0, 0, 0, 0], // F0
 ];
+
+// A use of a constant array makes it anew: who looks up more than one width makes it once, and lends it.
+fn all_widths() -> [[u8; 16]; 16]
+    ensures { λ r. ⌜ AreWidths r ⌝ }
+{
+    WIDTHS
+}
 
 fn width(widths: &[[u8; 16]; 16], lead: u8) -> u8
     requires { ⌜ AreWidths (now widths) ⌝ }
@@ -141,7 +147,7 @@ fn is_rest(s: &[u8], from: usize) -> bool
     requires { ⌜ Start (now s) from ⌝ }
     ensures { λ r. ⌜ r ≡ utf8 (drop from (now (s .entry))) ⌝ }
 {
-    let widths = WIDTHS;
+    let widths = all_widths();
     let mut i = from;
     while i < s.len() {
         let b = s[i];
@@ -210,7 +216,8 @@ pub fn first_char(s: &[u8]) -> u64
     if lead < 0x80 {
         return value;
     }
-    let wide = width(&WIDTHS, lead) as usize;
+    let widths = all_widths();
+    let wide = width(&widths, lead) as usize;
     let mut i: usize = 1;
     while i < wide {
         if s.len() <= i {

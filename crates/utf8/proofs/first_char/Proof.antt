@@ -5,7 +5,6 @@ use Prim.Native.Nat.{_-_}
 use native.Mathlib.Omega.{arith}
 use borrow.Author.Needs.{needs}
 use Rattle.laws.proofs.Utf8.{width-one}
-use Rattle.utf8.proofs.Widths.{widths, are-widths}
 use Rattle.utf8.proofs.Points.{Point, begin, none, fits, done, cut, again}
 use Rattle.utf8.proofs.first_char.Statement.{statement}
 use Rattle.utf8.proofs.first_char.Tie as tie
@@ -29,15 +28,17 @@ returns-2 : tie.Need-returns-2 Inv-loop μ-loop
 returns-2 c =
     done (begin _ (omega (arith, c .before .before .before .if1 .left)) (c .before .before .shared-slice-known2 .given 0 .fits) (sym (width-one _ (c .if2 .taken))) (c .before .lead-part .ensures)) (omega arith)
 
+all-widths-requires : tie.Need-all-widths-requires Inv-loop μ-loop
+all-widths-requires c κs = search needs
+
 width-requires : tie.Need-width-requires Inv-loop μ-loop
-unfolding widths
-width-requires c κs = are-widths
+width-requires c κs = search needs
 
 cast-wide : tie.Need-cast-wide Inv-loop μ-loop
 cast-wide c = omega arith
 
 loop-holds : tie.Need-loop-holds Inv-loop μ-loop
-loop-holds c = begin _ (omega (arith, c .before .before .before .before .before .if1 .left)) (c .before .before .before .before .shared-slice-known2 .given 0 .fits) (c .width .ensures) (c .before .before .before .lead-part .ensures)
+loop-holds c = begin _ (omega (arith, c .before .before .before .before .before .before .if1 .left)) (c .before .before .before .before .before .shared-slice-known2 .given 0 .fits) (c .width .ensures) (c .before .before .before .before .lead-part .ensures)
 
 returns-3 : tie.Need-returns-3 Inv-loop μ-loop
 returns-3 c = cut (c .before .before .loop .inv) (c .if3 .taken)
@@ -77,6 +78,7 @@ first-char-spec =
     shared-slice-read-lead
     lead-part-requires
     returns-2
+    all-widths-requires
     width-requires
     cast-wide
     loop-holds

@@ -6,16 +6,18 @@ use native.Mathlib.Omega.{arith}
 use lib.ListN.{length}
 use borrow.Author.Needs.{needs}
 use Rattle.utf8.specs.Scan.{Same, After}
-use Rattle.utf8.proofs.Widths.{widths, are-widths}
 use Rattle.utf8.proofs.Scan.{here, on, single, all-read}
 use Rattle.utf8.proofs.is_rest.Statement.{statement}
 use Rattle.utf8.proofs.is_rest.Tie as tie
 
 abbrev Inv-loop : tie.InvT-loop
-Inv-loop s from table i₀ i = Same s from i
+Inv-loop s from widths i₀ i = Same s from i
 
 abbrev μ-loop : tie.MeasureT-loop
-μ-loop s from table i₀ i = length s - i
+μ-loop s from widths i₀ i = length s - i
+
+all-widths-requires : tie.Need-all-widths-requires Inv-loop μ-loop
+all-widths-requires c κs = search needs
 
 loop-holds : tie.Need-loop-holds Inv-loop μ-loop
 loop-holds c = here _ _ (search needs)
@@ -36,8 +38,7 @@ loop-again : tie.Need-loop-again Inv-loop μ-loop
 loop-again c = on (single _ refl (omega arith) (omega arith) (c .before .before .before .before .loop .inv)) (c .after-ascii .ensures)
 
 after-lead-requires : tie.Need-after-lead-requires Inv-loop μ-loop
-unfolding widths
-after-lead-requires c κs = record { inside = omega arith; high = omega arith; table = are-widths }
+after-lead-requires c κs = search needs
 
 enum-known-got : tie.Need-enum-known-got Inv-loop μ-loop
 enum-known-got c = search needs
@@ -63,6 +64,7 @@ is-rest-spec =
     (tie.spec
     Inv-loop
     μ-loop
+    all-widths-requires
     loop-holds
     shared-slice-read-b
     add-after-ascii

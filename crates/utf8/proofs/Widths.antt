@@ -1,39 +1,36 @@
--- One test of the whole table, computed, says that each entry is its byte's width.
+-- One test of a whole table, which antt computes row after row, says that each entry is its byte's width.
 -- Assumes nothing.
-use mathlib.Core.Path.{_≡_, refl, subst}
-use mathlib.Core.Bool.{Bool, _&&_, and-eq-true-iff}
-use mathlib.Core.List.{List, [], _∷_, _++_}
+use mathlib.Core.Path.{_≡_, subst}
+use mathlib.Core.Bool.{Bool, true, _&&_, and-eq-true-iff}
+use mathlib.Core.List.{List, []}
 use Prim.Native.Nat.{ℕ, _+_, _*_, _/_, _%_, _<_}
 use native.Mathlib.Omega.{arith}
 use lib.Dec.{eqb}
-use lib.ListN.{length, getD, replicate}
+use lib.ListN.{length, getD}
 use borrow.Author.Tests.{eqb-true}
-use Rattle.wire.specs.Tests.{pick}
 use Rattle.wire.specs.Text.{widthOf}
 use Rattle.laws.proofs.Rule.{passes, at}
 use Rattle.utf8.specs.Scan.{AreWidths}
 
--- the table of the source, in runs of rows that are alike: 00 to 70, 80 to B0, and one each
-unfoldable pub widths : List (List ℕ)
-widths =
-    replicate 8 (replicate 16 1) ++
-    (replicate 4 (replicate 16 0) ++
-    ((0 ∷ 0 ∷ replicate 14 2) ∷ replicate 16 2 ∷ replicate 16 3 ∷ (replicate 5 4 ++ replicate 11 0) ∷ []))
-
-right : (row place entry : ℕ) → Bool
+abbrev right : (row place entry : ℕ) → Bool
 right i j x = eqb x (widthOf (i * 16 + j))
 
-row-right : ℕ → List ℕ → Bool
+abbrev row-right : ℕ → List ℕ → Bool
 row-right i r = eqb (length r) 16 && passes (right i) 0 r
 
-entry : (b : ℕ) → b < 256 → getD (getD widths (b / 16) []) (b % 16) 0 ≡ widthOf b
-unfolding right row-right widths widthOf pick
-entry b h =
-    let row : List ℕ = getD widths (b / 16) [] in
-    let parts = and-eq-true-iff (eqb (length row) 16) (passes (right (b / 16)) 0 row) .0 (at [] row-right widths refl (b / 16) (omega arith)) in
-    let full : length row ≡ 16 = eqb-true (length row) 16 (parts .0) in
-    let place : b / 16 * 16 + b % 16 ≡ b = omega arith in
-    subst (λ (p : ℕ). getD row (b % 16) 0 ≡ widthOf p) place (eqb-true _ _ (at 0 (right (b / 16)) row (parts .1) (b % 16) (omega arith)))
+-- sixteen rows of sixteen, each entry right
+abbrev pub are-right : List (List ℕ) → Bool
+are-right t = eqb (length t) 16 && passes row-right 0 t
 
-pub are-widths : AreWidths widths
-are-widths = record { entry = entry }
+pub tested : (t : List (List ℕ)) → are-right t ≡ true → AreWidths t
+tested t e = record { entry = entry }
+  where
+    entry : (b : ℕ) → b < 256 → getD (getD t (b / 16) []) (b % 16) 0 ≡ widthOf b
+    entry b h =
+        let rows = and-eq-true-iff (eqb (length t) 16) (passes row-right 0 t) .0 e in
+        let high : length t ≡ 16 = eqb-true (length t) 16 (rows .0) in
+        let r : List ℕ = getD t (b / 16) [] in
+        let row = and-eq-true-iff (eqb (length r) 16) (passes (right (b / 16)) 0 r) .0 (at [] row-right t (rows .1) (b / 16) (omega arith)) in
+        let wide : length r ≡ 16 = eqb-true (length r) 16 (row .0) in
+        let place : b / 16 * 16 + b % 16 ≡ b = omega arith in
+        subst (λ (p : ℕ). getD r (b % 16) 0 ≡ widthOf p) place (eqb-true _ _ (at 0 (right (b / 16)) r (row .1) (b % 16) (omega arith)))

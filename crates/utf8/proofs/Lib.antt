@@ -1,5 +1,8 @@
--- The proofs of what specs/ states, and of the functions' contracts.
+-- The proofs of what specs/ states, and what the loops know.
+pub mod Widths
 pub mod Scan
 pub mod Points
 pub mod Chars
 pub mod Contents
+pub mod Laws
+pub mod Unique

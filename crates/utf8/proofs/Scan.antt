@@ -72,7 +72,7 @@ two b l e z =
     (λ l. by-lt b 0xf0 (λ h. omega (arith, width-three b l h))
     (λ l. by-lt b 0xf5 (λ h. omega (arith, width-four b l h)) (λ l. absurd (z (omega (arith, width-high b l)))))))
 
-module _ {s : List ℕ} {at w : ℕ} (l : Lead s at) (e : w ≡ widthOf (getD s at 0)) where
+module _ {s : List ℕ} {at w : ℕ} {widths : List (List ℕ)} (l : Lead s at widths) (e : w ≡ widthOf (getD s at 0)) where
   pub no-lead : w ≡ 0 → utf8 (drop at s) ≡ false
   unfolding utf8 utf8F both
   no-lead z = rw (next s at (l .inside), le-ltb 0 (widthOf (getD s at 0)) (omega arith))
@@ -112,6 +112,6 @@ module _ {s : List ℕ} {from i : ℕ} (r : Same s from i) (h : i + 4 ≤ length
       pub four-on : getD s (i + 3) 0 < 0x80 → Same s from (i + 4)
       four-on b3 = single (i + 4) (omega arith) (omega arith) b3 three-on
 
-pub all-read : {s : List ℕ} {i : ℕ} → Same s 0 i → length s ≤ i → true ≡ utf8 s
+pub all-read : {s : List ℕ} {from i : ℕ} → Same s from i → length s ≤ i → true ≡ utf8 (drop from s)
 unfolding utf8 utf8F
-all-read {s} {i} r h = rw (drop-of-length-le s h) at (r .same)
+all-read {s} r h = rw (drop-of-length-le s h) at (r .same)

@@ -2,14 +2,18 @@
 -- Assumes nothing.
 use mathlib.Core.Path.{_≡_}
 use mathlib.Core.Bool.{Bool, false}
-use mathlib.Core.List.{List}
-use Prim.Native.Nat.{ℕ, _<_, _≤_}
+use mathlib.Core.List.{List, []}
+use Prim.Native.Nat.{ℕ, _/_, _%_, _<_, _≤_}
 use lib.ListN.{length, getD, drop}
 use lib.Dec.{leb}
 use Rattle.wire.specs.Tests.{both}
-use Rattle.wire.specs.Text.{lowOf, highOf, utf8}
+use Rattle.wire.specs.Text.{widthOf, lowOf, highOf, utf8}
 use Rattle.utf8.specs.declared.Sequence.{Sequence}
 use Rattle.utf8.specs.declared.Sequence.the-variants.{Ends, Bad}
+
+-- the table, in rows of sixteen, holds the width of each byte
+pub record AreWidths (widths : List (List ℕ)) : Type 0 where
+  pub entry : (b : ℕ) → b < 256 → getD (getD widths (b / 16) []) (b % 16) 0 ≡ widthOf b
 
 -- the byte b may follow the lead byte
 unfoldable pub isSecond : (lead b : ℕ) → Bool
@@ -19,10 +23,11 @@ isSecond lead b = both (leb (lowOf lead) b) (leb b (highOf lead))
 pub record Start (s : List ℕ) (from : ℕ) : Type 0 where
   pub inside : from ≤ length s
 
--- a place where a byte stands that is no single one
-pub record Lead (s : List ℕ) (at : ℕ) : Type 0 where
+-- a place where a byte stands that is no single one, and the table
+pub record Lead (s : List ℕ) (at : ℕ) (widths : List (List ℕ)) : Type 0 where
   pub inside : at < length s
   pub high : 0x80 ≤ getD s at 0
+  pub table : AreWidths widths
 
 -- from one place to another, what is to be said of the rest stays
 pub record Same (s : List ℕ) (from to : ℕ) : Type 0 where

@@ -5,12 +5,12 @@ ghost use mathlib.Core.Path.{_≡_};
 ghost use mathlib.Core.Bool.{true};
 ghost use Prim.Native.Nat.{_+_, _<_, _^_};
 ghost use lib.Dec.{leb};
-ghost use lib.ListN.{length};
+ghost use lib.ListN.{length, drop};
 ghost use Rattle.wire.specs.Tests.{both};
 ghost use Rattle.wire.specs.Text.{widthOf, utf8, firstChar, isChar};
 ghost use Rattle.wire.specs.Shape.{char, pooled};
 ghost use Rattle.wire.specs.Reading.{charOf, isContent, contentOf, readLeaf, head};
-ghost use Rattle.utf8.specs.Scan.{isSecond, Lead, Start, Same, After};
+ghost use Rattle.utf8.specs.Scan.{AreWidths, isSecond, Lead, Start, Same, After};
 ghost use Rattle.utf8.specs.Chars.{leadOf, overOf, Form};
 ghost use Rattle.utf8.specs.Contents.{contentIf};
 
@@ -34,10 +34,18 @@ const WIDTHS: [[u8; 16]; 16] = [
     [4, 4, 4, 4, 4, 0, 0, 0, 0, 0, 0, 0, 0, 0, 0, 0], // F0
 ];
 
-fn width(lead: u8) -> u8
+// A use of a constant array makes it anew: who looks up more than one width makes it once, and lends it.
+fn all_widths() -> [[u8; 16]; 16]
+    ensures { λ r. ⌜ AreWidths r ⌝ }
+{
+    WIDTHS
+}
+
+fn width(widths: &[[u8; 16]; 16], lead: u8) -> u8
+    requires { ⌜ AreWidths (now widths) ⌝ }
     ensures { λ r. ⌜ r ≡ widthOf lead ⌝ }
 {
-    WIDTHS[(lead / 16) as usize][(lead % 16) as usize]
+    widths[(lead / 16) as usize][(lead % 16) as usize]
 }
 
 fn is_in(b: u8, low: u8, high: u8) -> bool
@@ -69,24 +77,25 @@ enum Sequence {
 }
 
 // The sequence whose lead byte stands at a place. No sequence starts with 80 to C1 or with F5 to FF.
-fn after_lead(s: &[u8], at: usize) -> Sequence
-    requires { ⌜ Lead (now s) at ⌝ }
+// The place is a sum with a literal: with `wide`, the next sequence would wait for the table.
+fn after_lead(s: &[u8], at: usize, widths: &[[u8; 16]; 16]) -> Sequence
+    requires { ⌜ Lead (now s) at (now widths) ⌝ }
     ensures { λ r. ⌜ After (now (s .entry)) at r ⌝ }
 {
     let lead = s[at];
-    let wide = width(lead) as usize;
+    let wide = width(widths, lead) as usize;
     if wide == 0 {
         return Sequence::Bad;
     }
     if s.len() - at < wide {
         return Sequence::Bad;
     }
-    let place = at + wide;
     let second = is_second(lead, s[at + 1]);
     if !second {
         return Sequence::Bad;
     }
     if wide == 2 {
+        let place = at + 2;
         return Sequence::Ends { place };
     }
     let third = is_in(s[at + 2], 0x80, 0xbf);
@@ -94,12 +103,14 @@ fn after_lead(s: &[u8], at: usize) -> Sequence
         return Sequence::Bad;
     }
     if wide == 3 {
+        let place = at + 3;
         return Sequence::Ends { place };
     }
     let fourth = is_in(s[at + 3], 0x80, 0xbf);
     if !fourth {
         return Sequence::Bad;
     }
+    let place = at + 4;
     Sequence::Ends { place }
 }
 
@@ -131,22 +142,39 @@ fn after_ascii(s: &[u8], from: usize) -> usize
     i
 }
 
-// Whether bytes are a text, in one pass.
+// Whether the bytes from a place on are a text.
+fn is_rest(s: &[u8], from: usize) -> bool
+    requires { ⌜ Start (now s) from ⌝ }
+    ensures { λ r. ⌜ r ≡ utf8 (drop from (now (s .entry))) ⌝ }
+{
+    let widths = all_widths();
+    let mut i = from;
+    while i < s.len() {
+        let b = s[i];
+        if b < 0x80 {
+            i = after_ascii(s, i + 1);
+        } else {
+            let got = after_lead(s, i, &widths);
+            let Sequence::Ends { place } = got else {
+                return false;
+            };
+            i = place;
+        }
+    }
+    true
+}
+
+// Whether bytes are a text, in one pass. While there are only single bytes, no table is wanted.
 pub fn is_text(s: &[u8]) -> bool
     ensures { λ r. ⌜ r ≡ utf8 (now (s .entry)) ⌝ }
 {
     let mut i: usize = 0;
     while i < s.len() {
         let b = s[i];
-        if b < 0x80 {
-            i = after_ascii(s, i + 1);
-        } else {
-            let got = after_lead(s, i);
-            let Sequence::Ends { place } = got else {
-                return false;
-            };
-            i = place;
+        if 0x80 <= b {
+            return is_rest(s, i);
         }
+        i = after_ascii(s, i + 1);
     }
     true
 }
@@ -182,8 +210,14 @@ pub fn first_char(s: &[u8]) -> u64
     if s.len() == 0 {
         return 0;
     }
-    let wide = width(s[0]) as usize;
-    let mut value = lead_part(s[0]);
+    let lead = s[0];
+    let mut value = lead_part(lead);
+    // a single byte wants no table
+    if lead < 0x80 {
+        return value;
+    }
+    let widths = all_widths();
+    let wide = width(&widths, lead) as usize;
     let mut i: usize = 1;
     while i < wide {
         if s.len() <= i {

@@ -39,9 +39,6 @@ wide-two c = two _ (c .before .before .before .before .pre .high) (c .before .wi
 returns-2 : tie.Need-returns-2
 returns-2 c = short (opened (c .before)) (omega (arith, c .before .before .before .before .before .pre .inside)) (omega (arith, wide-two (c .before)))
 
-add-place : tie.Need-add-place
-add-place c = search needs
-
 add-is-second : tie.Need-add-is-second
 add-is-second c = search needs
 
@@ -60,6 +57,9 @@ second : (c : tie.Else3) → let a = c .before .before .before .before .before .
 unfolding isSecond
 second c =
     goes-on (opened (c .before .before .before .before)) (omega (arith, wide-two (c .before .before .before .before))) (c .before .before .before .before .before .width .result - 2) (omega (arith, wide-two (c .before .before .before .before))) (c .before .is-second .ensures) _ (omega arith) (c .if3 .left)
+
+add-place : tie.Need-add-place
+add-place c = search needs
 
 returns-4 : tie.Need-returns-4
 returns-4 c = (omega arith, done (second (c .before)) _ (omega arith) (omega arith) (omega arith) (omega arith))
@@ -84,6 +84,9 @@ third : (c : tie.Else5) → let a = c .before .before .before .before .before .b
 third c =
     goes-on (second (c .before .before .before .before)) (omega (arith, wide-three (c .before .before .before))) (c .before .before .before .before .before .before .before .before .before .width .result - 3) (omega (arith, wide-three (c .before .before .before))) (c .before .is-in .ensures) _ (omega arith) (c .if5 .left)
 
+add-place-2 : tie.Need-add-place-2
+add-place-2 c = search needs
+
 returns-6 : tie.Need-returns-6
 returns-6 c = (omega arith, done (third (c .before)) _ (omega arith) (omega arith) (omega arith) (omega arith))
 
@@ -103,6 +106,9 @@ returns-7 : tie.Need-returns-7
 returns-7 c =
     refuses (third (c .before .before .before .before)) (omega (arith, wide-four (c .before .before .before))) 0 (omega (arith, wide-four (c .before .before .before))) (c .before .is-in2 .ensures) (c .if7 .taken)
 
+add-place-3 : tie.Need-add-place-3
+add-place-3 c = search needs
+
 returns-8 : tie.Need-returns-8
 returns-8 c =
     let w = wide-four (c .before .before .before) in
@@ -119,19 +125,21 @@ after-lead-spec =
     returns
     sub-if2
     returns-2
-    add-place
     add-is-second
     shared-slice-read-is-second
     is-second-requires
     returns-3
+    add-place
     returns-4
     add-is-in
     shared-slice-read-is-in
     is-in-requires
     returns-5
+    add-place-2
     returns-6
     add-is-in-2
     shared-slice-read-is-in-2
     is-in-requires-2
     returns-7
+    add-place-3
     returns-8)

@@ -1,52 +1,59 @@
 -- `utf8::first_char` meets its contract: the loop's invariant is `Point`.
 -- Assumes nothing.
+use mathlib.Core.Path.{sym}
 use Prim.Native.Nat.{_-_}
 use native.Mathlib.Omega.{arith}
+use borrow.Author.Needs.{needs}
+use Rattle.laws.proofs.Utf8.{width-one}
 use Rattle.utf8.proofs.Points.{Point, begin, none, fits, done, cut, again}
 use Rattle.utf8.proofs.first_char.Statement.{statement}
 use Rattle.utf8.proofs.first_char.Tie as tie
 
 abbrev Inv-loop : tie.InvT-loop
-Inv-loop s w value₀ i₀ value i = Point s w value i
+Inv-loop s lead value₀ wide i₀ value i = Point s wide value i
 
 abbrev μ-loop : tie.MeasureT-loop
-μ-loop s w value₀ i₀ value i = w - i
+μ-loop s lead value₀ wide i₀ value i = wide - i
 
 returns : tie.Need-returns Inv-loop μ-loop
 returns c = none _ (c .if1 .taken)
 
-shared-slice-read-width : tie.Need-shared-slice-read-width Inv-loop μ-loop
-shared-slice-read-width c = omega arith
+shared-slice-read-lead : tie.Need-shared-slice-read-lead Inv-loop μ-loop
+shared-slice-read-lead c = omega arith
+
+lead-part-requires : tie.Need-lead-part-requires Inv-loop μ-loop
+lead-part-requires c κs = search needs
+
+returns-2 : tie.Need-returns-2 Inv-loop μ-loop
+returns-2 c =
+    done (begin _ (omega (arith, c .before .before .before .if1 .left)) (c .before .before .shared-slice-known2 .given 0 .fits) (sym (width-one _ (c .if2 .taken))) (c .before .lead-part .ensures)) (omega arith)
+
+all-widths-requires : tie.Need-all-widths-requires Inv-loop μ-loop
+all-widths-requires c κs = search needs
 
 width-requires : tie.Need-width-requires Inv-loop μ-loop
-width-requires c κs = omega arith
+width-requires c κs = search needs
 
 cast-wide : tie.Need-cast-wide Inv-loop μ-loop
 cast-wide c = omega arith
 
-shared-slice-read-lead-part : tie.Need-shared-slice-read-lead-part Inv-loop μ-loop
-shared-slice-read-lead-part c = omega arith
-
-lead-part-requires : tie.Need-lead-part-requires Inv-loop μ-loop
-lead-part-requires c κs = omega arith
-
 loop-holds : tie.Need-loop-holds Inv-loop μ-loop
-loop-holds c = begin _ (omega (arith, c .before .before .before .before .if1 .left)) (c .before .shared-slice-known3 .given 0 .fits) (c .before .before .width .ensures) (c .lead-part .ensures)
+loop-holds c = begin _ (omega (arith, c .before .before .before .before .before .before .if1 .left)) (c .before .before .before .before .before .shared-slice-known2 .given 0 .fits) (c .width .ensures) (c .before .before .before .before .lead-part .ensures)
 
-returns-2 : tie.Need-returns-2 Inv-loop μ-loop
-returns-2 c = cut (c .before .before .loop .inv) (c .if2 .taken)
+returns-3 : tie.Need-returns-3 Inv-loop μ-loop
+returns-3 c = cut (c .before .before .loop .inv) (c .if3 .taken)
 
 shared-slice-read-over : tie.Need-shared-slice-read-over Inv-loop μ-loop
 shared-slice-read-over c = omega arith
 
 over-requires : tie.Need-over-requires Inv-loop μ-loop
-over-requires c κs = omega arith
+over-requires c κs = search needs
 
 mul-value : tie.Need-mul-value Inv-loop μ-loop
-mul-value c = omega (arith, fits (c .before .before .before .before .loop .inv) (c .over .ensures) (c .before .shared-slice-known4 .given _ .fits))
+mul-value c = omega (arith, fits (c .before .before .before .before .loop .inv) (c .over .ensures) (c .before .shared-slice-known3 .given _ .fits))
 
 add-value : tie.Need-add-value Inv-loop μ-loop
-add-value c = record { fits = fits (c .before .before .before .before .loop .inv) (c .over .ensures) (c .before .shared-slice-known4 .given _ .fits) }
+add-value c = record { fits = fits (c .before .before .before .before .loop .inv) (c .over .ensures) (c .before .shared-slice-known3 .given _ .fits) }
 
 add-i : tie.Need-add-i Inv-loop μ-loop
 add-i c = omega arith
@@ -55,10 +62,11 @@ loop-less : tie.Need-loop-less Inv-loop μ-loop
 loop-less c = omega arith
 
 loop-again : tie.Need-loop-again Inv-loop μ-loop
-loop-again c = rw (c .over .ensures) (again (c .before .before .before .before .loop .inv) (c .before .before .before .loop-test .taken) (c .before .before .if2 .left) (c .before .shared-slice-known4 .given _ .fits))
+loop-again c =
+    rw (c .over .ensures) (again (c .before .before .before .before .loop .inv) (c .before .before .before .loop-test .taken) (c .before .before .if3 .left) (c .before .shared-slice-known3 .given _ .fits))
 
-returns-3 : tie.Need-returns-3 Inv-loop μ-loop
-returns-3 c = done (c .before .loop .inv) (c .loop-test .left)
+returns-4 : tie.Need-returns-4 Inv-loop μ-loop
+returns-4 c = done (c .before .loop .inv) (c .loop-test .left)
 
 pub first-char-spec : {M : Type 1} → statement M
 first-char-spec =
@@ -67,13 +75,14 @@ first-char-spec =
     Inv-loop
     μ-loop
     returns
-    shared-slice-read-width
+    shared-slice-read-lead
+    lead-part-requires
+    returns-2
+    all-widths-requires
     width-requires
     cast-wide
-    shared-slice-read-lead-part
-    lead-part-requires
     loop-holds
-    returns-2
+    returns-3
     shared-slice-read-over
     over-requires
     mul-value
@@ -81,4 +90,4 @@ first-char-spec =
     add-i
     loop-less
     loop-again
-    returns-3)
+    returns-4)

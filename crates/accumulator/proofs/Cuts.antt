@@ -66,10 +66,10 @@ module _ (m behind′ : List ℕ) where
   unfolding framed
   last {array} {s} {idx} h t rest c cs is clean fits good left =
       let e : feed array idx c ≡ framed (some m) rest array = rw is (feed-last h t rest clean fits ∙ ap (λ (x : Option (List ℕ)). framed x rest array) good) in
-      record { fed = feed array idx c; later = cs; comes = at; answer = rw e; message = rw e; start = rw e; rest = rw e left }
+      record { fed = feed array idx c; later = cs; comes = at; answer = rw e; message = rw e; empty = rw e; rest = rw e left }
 
   go-on : {array : List ℕ} {idx : ℕ} {c : List ℕ} {cs : List (List ℕ)} → Taken (feed array idx c) → Ended (feed array idx c .array) (feed array idx c .idx) cs m behind′ → Ended array idx (c ∷ cs) m behind′
-  go-on t e = record { fed = e .fed; later = e .later; comes = behind t (e .comes); answer = e .answer; message = e .message; start = e .start; rest = e .rest }
+  go-on t e = record { fed = e .fed; later = e .later; comes = behind t (e .comes); answer = e .answer; message = e .message; empty = e .empty; rest = e .rest }
 
   more : {array s : List ℕ} {idx : ℕ} → Has array idx s → (c r : List ℕ) (cs : List (List ℕ)) → toZero (c ++ r) ≡ none → length (s ++ c) ≤ room → (Has (with array idx c) (idx + length c) (s ++ c) → Ended (with array idx c) (idx + length c) cs m behind′) → Ended array idx (c ∷ cs) m behind′
   unfolding noMessage

@@ -79,7 +79,7 @@ group-code gap zero s byte = absurd (byte refl)
 group-code gap (suc c) s byte = let e : suc c - 1 ≡ c = omega arith in rw e
 
 -- a frame with a zero in it is bad
-pub groups-zero : (gap k : ℕ) (s : List ℕ) → (toZero s ≡ none → ⊥) → groups gap k s ≡ none
+groups-zero : (gap k : ℕ) (s : List ℕ) → (toZero s ≡ none → ⊥) → groups gap k s ≡ none
 unfolding groups toZero
 groups-zero gap k [] dirty = absurd (dirty refl)
 groups-zero gap zero (zero ∷ s) dirty = refl
@@ -87,7 +87,7 @@ groups-zero gap (suc k) (zero ∷ s) dirty = refl
 groups-zero gap zero (suc c ∷ s) dirty = rw (groups-zero (gapAfter (suc c)) c s (λ e. dirty (rw e)))
 groups-zero gap (suc k) (suc b ∷ s) dirty = rw (groups-zero gap k s (λ e. dirty (rw e)))
 
-pub decode-zero : (s : List ℕ) → (toZero s ≡ none → ⊥) → decode s ≡ none
+decode-zero : (s : List ℕ) → (toZero s ≡ none → ⊥) → decode s ≡ none
 unfolding decode
 decode-zero s dirty = groups-zero 0 0 s dirty
 

@@ -23,14 +23,14 @@ pub data Comes : (array : List ℕ) (idx : ℕ) (chunks : List (List ℕ)) (f : 
   at : {array : List ℕ} {idx : ℕ} {c : List ℕ} {cs : List (List ℕ)} → Comes array idx (c ∷ cs) (feed array idx c) cs
   behind : {array : List ℕ} {idx : ℕ} {c : List ℕ} {cs later : List (List ℕ)} {f : Fed} → Taken (feed array idx c) → Comes (feed array idx c .array) (feed array idx c .idx) cs f later → Comes array idx (c ∷ cs) f later
 
--- a frame's end
+-- one of the chunks answers 23 with a message, leaves the state empty, and its rest and the later chunks hold what stands behind the frame
 pub record Ended (array : List ℕ) (idx : ℕ) (chunks : List (List ℕ)) (m behind : List ℕ) : Type 0 where
   pub fed : Fed
   pub later : List (List ℕ)
   pub comes : Comes array idx chunks fed later
   pub answer : fed .answer ≡ Frame
   pub message : fed .message ≡ m
-  pub start : fed .idx ≡ 0
+  pub empty : fed .idx ≡ 0
   pub rest : fed .rest ++ joined later ≡ behind
 
 -- a frame that fits, its zero among its bytes, and what stands behind it, in any chunks whatever: 20 until the zero comes, and then 23 with the frame's message

@@ -126,7 +126,7 @@ fn decode(frame: &[u8], message: &mut [u8]) -> Decoded
         let to = len + gap;
         let after = gap_after(code);
         if code == 1 {
-            // Runs of zeros are runs of empty groups: the next code is then read without waiting for this one.
+            // A run of zeros: the next code is read without waiting for this one.
             len = to;
             gap = after;
             i = from;

@@ -1,0 +1,7 @@
+pub mod Search
+pub mod Chunks
+pub mod Decoding
+pub mod Feeding
+pub mod Unique
+pub mod Progress
+pub mod Cuts

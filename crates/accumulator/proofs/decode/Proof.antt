@@ -1,0 +1,115 @@
+-- `accumulator::decode` meets its contract: group by group, what is made and what is left make the message.
+-- Assumes nothing.
+use Prim.Native.Nat.{_-_}
+use mathlib.Core.Path.{sym, _∙_}
+use lib.ListN.{length}
+use Rattle.wire.specs.Frames.{room}
+use Rattle.accumulator.proofs.Decoding.{Decoding, decoding-none, decoding-long, decoding-end, code-byte, decoding-short, part-long, decoding-more, decoding-empty}
+use native.Mathlib.Omega.{arith}
+use Rattle.accumulator.proofs.decode.Statement.{statement}
+use Rattle.accumulator.proofs.decode.Tie as tie
+
+abbrev Inv-loop : tie.InvT-loop
+Inv-loop frame message₀ gap₀ len₀ i₀ message gap len i = Decoding frame gap len i message
+
+abbrev μ-loop : tie.MeasureT-loop
+μ-loop frame message₀ gap₀ len₀ i₀ message gap len i = length frame - i
+
+loop-holds : tie.Need-loop-holds Inv-loop μ-loop
+loop-holds c = decoding-none (c .before .before .pre)
+
+shared-slice-read-code : tie.Need-shared-slice-read-code Inv-loop μ-loop
+shared-slice-read-code c = omega arith
+
+add-from : tie.Need-add-from Inv-loop μ-loop
+add-from c = omega arith
+
+add-to : tie.Need-add-to Inv-loop μ-loop
+unfolding room
+add-to c = omega arith
+
+gap-after-requires : tie.Need-gap-after-requires Inv-loop μ-loop
+gap-after-requires c κs = tt
+
+loop-less : tie.Need-loop-less Inv-loop μ-loop
+loop-less c = omega arith
+
+loop-again : tie.Need-loop-again Inv-loop μ-loop
+loop-again c = rw (c .before .gap-after .ensures) (decoding-empty (c .before .before .before .before .loop .inv) (c .before .before .before .loop-test .taken) (c .if1 .taken))
+
+cast-count : tie.Need-cast-count Inv-loop μ-loop
+cast-count c = omega (arith, c .before .before .shared-slice-known2 .given (c .before .before .before .before .loop .i))
+
+sub-count : tie.Need-sub-count Inv-loop μ-loop
+sub-count c = omega (arith, code-byte (c .before .before .before .before .loop .inv) (c .before .before .before .loop-test .taken))
+
+sub-if2 : tie.Need-sub-if2 Inv-loop μ-loop
+sub-if2 c = omega arith
+
+same-length : tie.Need-same-length Inv-loop μ-loop
+same-length c = decoding-long (c .before .before .before .before .before .loop .inv) ∙ sym (decoding-long (decoding-none (c .before .before .before .before .before .before .before .before .pre)))
+
+returns : tie.Need-returns Inv-loop μ-loop
+returns c = decoding-short (c .before .before .before .before .before .loop .inv) (c .before .before .before .before .loop-test .taken) (c .if2 .taken)
+
+add-end : tie.Need-add-end Inv-loop μ-loop
+add-end c = omega arith
+
+sub-put : tie.Need-sub-put Inv-loop μ-loop
+sub-put c = omega arith
+
+part-put-start : tie.Need-part-put-start Inv-loop μ-loop
+part-put-start c = omega arith
+
+part-put-end : tie.Need-part-put-end Inv-loop μ-loop
+part-put-end c = omega arith
+
+put-requires : tie.Need-put-requires Inv-loop μ-loop
+put-requires c κs =
+    let l = c .before .before .before .before .before .before .before .loop in
+    (omega (arith, part-long (l .inv) (c .before .before .before .before .before .before .loop-test .taken) (omega arith)), decoding-long (l .inv))
+
+add-len : tie.Need-add-len Inv-loop μ-loop
+unfolding room
+add-len c = omega arith
+
+loop-less-2 : tie.Need-loop-less-2 Inv-loop μ-loop
+loop-less-2 c = omega arith
+
+loop-again-2 : tie.Need-loop-again-2 Inv-loop μ-loop
+loop-again-2 c = rw (c .before .before .put .ensures, c .before .before .before .before .before .before .before .gap-after .ensures) (decoding-more (c .before .before .before .before .before .before .before .before .before .before .loop .inv) (c .before .before .before .before .before .before .before .before .before .loop-test .taken) (omega arith))
+
+same-length-2 : tie.Need-same-length-2 Inv-loop μ-loop
+same-length-2 c = decoding-long (c .before .loop .inv) ∙ sym (decoding-long (decoding-none (c .before .before .before .before .pre)))
+
+returns-2 : tie.Need-returns-2 Inv-loop μ-loop
+returns-2 c = decoding-end (c .before .loop .inv) (c .loop-test .left)
+
+pub decode-spec : {M : Type 1} → statement M
+decode-spec =
+    tie.close
+    (tie.spec
+    Inv-loop
+    μ-loop
+    loop-holds
+    shared-slice-read-code
+    add-from
+    add-to
+    gap-after-requires
+    loop-less
+    loop-again
+    cast-count
+    sub-count
+    sub-if2
+    same-length
+    returns
+    add-end
+    sub-put
+    part-put-start
+    part-put-end
+    put-requires
+    add-len
+    loop-less-2
+    loop-again-2
+    same-length-2
+    returns-2)

@@ -1,0 +1,100 @@
+// Feeds standard input to the accumulator in odd chunks and writes what each feed answers: its
+// number and name, how long the rest is, the state's idx, and a frame's message in hex.
+use accumulator::Accumulator;
+use accumulator::Fed;
+use libc::STDOUT_FILENO;
+use wire::FeedAnswer;
+ghost use Prim.Native.Nat.{_≤_, _<_};
+ghost use Rattle.wire.specs.Frames.{room};
+
+fn say(text: &[u8]) {
+    io::write_all(STDOUT_FILENO, text);
+}
+
+fn say_number(text: &[u8], n: usize) {
+    say(text);
+    io::print_decimal(STDOUT_FILENO, n as u64);
+}
+
+fn say_answer(answer: FeedAnswer) {
+    say(b"  ");
+    io::print_decimal(STDOUT_FILENO, accumulator::number(answer));
+    match answer {
+        FeedAnswer::Consumed => say(b" consumed"),
+        FeedAnswer::OverFull => say(b" over-full"),
+        FeedAnswer::BadFrame => say(b" bad frame"),
+        FeedAnswer::Frame => say(b" frame"),
+        FeedAnswer::BadState => say(b" bad state"),
+    }
+}
+
+fn say_byte(byte: u8) {
+    say(b" ");
+    io::print_hex(STDOUT_FILENO, byte as u64, 2);
+}
+
+fn say_bytes(bytes: &[u8]) {
+    let mut i = 0;
+    while i < bytes.len() {
+        say_byte(bytes[i]);
+        i += 1;
+    }
+}
+
+fn say_fed(fed: Fed, rest: usize) {
+    let answer = fed.answer;
+    let state = fed.state;
+    let message = fed.message;
+    let len = fed.len;
+    say_answer(answer);
+    say_number(b", rest ", rest);
+    say_number(b", idx ", state.idx);
+    // A made-up answer may say more than there is.
+    if len <= accumulator::ROOM {
+        say(b", message [");
+        say_bytes(&message[..len]);
+        say(b" ]");
+    }
+    say(b"\n");
+}
+
+// Feeds a chunk until nothing is left of it.
+fn feed_all(state: Accumulator, chunk: &[u8]) -> Accumulator
+    requires { ⌜ state .idx ≤ room ⌝ }
+    ensures { λ r. ⌜ r .idx ≤ room ⌝ }
+{
+    let mut state = state;
+    let mut left = chunk;
+    while 0 < left.len() {
+        let fed = accumulator::feed(state, left);
+        let rest = accumulator::rest(left, fed);
+        say_fed(fed, rest.len());
+        left = rest;
+        state = fed.state;
+    }
+    state
+}
+
+// Where the chunk that starts at `at` ends: it has 1 to 61 bytes.
+fn cut(at: usize, end: usize) -> usize
+    requires { ⌜ at < end ⌝ }
+    ensures { λ r. ⌜ (at < r) × (r ≤ end) ⌝ }
+{
+    let size = at % 13 * 5 + 1;
+    if end - at < size { end } else { at + size }
+}
+
+fn main() {
+    let mut input = io::buffer();
+    let end = io::read_full(0, &mut input);
+    let mut state = Accumulator::new();
+    let mut at = 0;
+    while at < end {
+        let to = cut(at, end);
+        say_number(b"chunk of ", to - at);
+        say(b"\n");
+        let next = feed_all(state, &input[at..to]);
+        state = next;
+        at = to;
+    }
+}

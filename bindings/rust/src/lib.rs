@@ -313,11 +313,25 @@ pub struct Entry {
     pub second: u64,
 }
 
+/// Takes one item of kind 0 to 13 or 20 to 31 at a place of the message: its entry, and the place behind it.
+pub fn take(kind: u64, message: &[u8], place: usize) -> Result<(Entry, usize), Refused> {
+    let (mut behind, mut first, mut second) = (place as u64, 0, 0);
+    // SAFETY: the slice is lent with its own length; the numbers are ours.
+    let number = unsafe {
+        ffi::reystavem_take(kind, message.as_ptr(), message.len(), &mut behind, &mut first, &mut second)
+    };
+    match number {
+        0 => Ok((Entry { first, second }, behind as usize)),
+        2 => Err(refused(number, 0)),
+        _ => Err(refused(number, behind)),
+    }
+}
+
 /// A message and a place in it, from which single items are taken.
 #[derive(Clone, Copy, Debug, PartialEq, Eq)]
 pub struct Deserializer<'m> {
     message: &'m [u8],
-    place: u64,
+    place: usize,
 }
 
 impl<'m> Deserializer<'m> {
@@ -327,29 +341,14 @@ impl<'m> Deserializer<'m> {
 
     /// Takes one item of kind 0 to 13 or 20 to 31 and goes behind it. A refusal keeps the place.
     pub fn take(&mut self, kind: u64) -> Result<Entry, Refused> {
-        let (mut first, mut second) = (0, 0);
-        let before = self.place;
-        // SAFETY: the slice is lent with its own length; the numbers are ours.
-        let number = unsafe {
-            ffi::reystavem_take(
-                kind,
-                self.message.as_ptr(),
-                self.message.len(),
-                &mut self.place,
-                &mut first,
-                &mut second,
-            )
-        };
-        match number {
-            0 => Ok(Entry { first, second }),
-            2 => Err(refused(number, 0)),
-            _ => Err(refused(number, before)),
-        }
+        let (entry, behind) = take(kind, self.message, self.place)?;
+        self.place = behind;
+        Ok(entry)
     }
 
     /// The bytes from the place on.
     pub fn rest(&self) -> &'m [u8] {
-        self.message.get(self.place as usize..).unwrap_or(&[])
+        self.message.get(self.place..).unwrap_or(&[])
     }
 }
 

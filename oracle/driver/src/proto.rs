@@ -25,7 +25,7 @@ pub fn unhex(s: &str) -> Result<Vec<u8>, String> {
     (0..s.len()).step_by(2).map(|i| u8::from_str_radix(&s[i..i + 2], 16).map_err(|e| e.to_string())).collect()
 }
 
-fn number(s: &str) -> Result<u64, String> {
+pub fn number(s: &str) -> Result<u64, String> {
     u64::from_str_radix(s, 16).map_err(|e| format!("{s}: {e}"))
 }
 
@@ -36,7 +36,7 @@ pub fn words_text(words: &[u64]) -> String {
     words.iter().map(|w| format!("{w:x}")).collect::<Vec<_>>().join(",")
 }
 
-fn words(s: &str) -> Result<Vec<u64>, String> {
+pub fn words(s: &str) -> Result<Vec<u64>, String> {
     if s == "-" {
         Ok(vec![])
     } else {

@@ -1,0 +1,136 @@
+//! One request to both: the library's answer with all lent memory, and the oracle's.
+use oracle_driver::append::{appends, Which};
+use oracle_driver::feed::{feed, ROOM};
+use oracle_driver::proto::{number, unhex, words};
+use oracle_driver::{read, table, write, Refusal};
+use reystavem::{Accumulator, Fed, Refused, Side};
+use std::fmt::Debug;
+
+/// What differs, in words.
+pub struct Differs(pub String);
+
+fn same<T: PartialEq + Debug>(what: &str, ours: T, right: T) -> Result<(), Differs> {
+    if ours == right {
+        return Ok(());
+    }
+    Err(Differs(format!("{what}: {ours:x?}, but it is {right:x?}")))
+}
+
+/// A refusal as document 01's number and place.
+fn numbered(refused: Refused) -> (u8, usize) {
+    (refused.why as u8, refused.place)
+}
+
+/// What lent memory holds before a call, hardly twice the same.
+fn lent(length: usize) -> Vec<u64> {
+    (0..length as u64).map(|i| !i.wrapping_mul(0x9e37_79b9_7f4a_7c15)).collect()
+}
+
+fn lent_bytes(length: usize) -> Vec<u8> {
+    lent(length).iter().map(|w| *w as u8).collect()
+}
+
+/// The table's check: 1 and 2 are the table's own.
+pub fn check(table: &[u8]) -> Result<(), Differs> {
+    let ours = reystavem::check(table).err().map(numbered);
+    let right = table::Table::parse(table).err().map(|Refusal { no, place }| (no, place));
+    same("check", ours, right)
+}
+
+/// A store of an odd number of words has the room of the even number below.
+pub fn read(table: &[u8], message: &[u8], room: usize) -> Result<(), Differs> {
+    let right = read::read(table, message, room);
+    let before = lent(2 * room + message.len() % 2);
+    let mut store = before.clone();
+    let (ours, count, rest) = match reystavem::read(table, message, &mut store) {
+        Ok(read) => ((0, message.len() - read.rest.len()), read.count, read.rest),
+        Err(refused) => (numbered(refused.refused), refused.count, &[][..]),
+    };
+    same("number and place", ours, (right.no, right.place))?;
+    same("count", count, right.entries.len())?;
+    same("rest", rest, right.rest)?;
+    let mut after = before;
+    after[..2 * count].copy_from_slice(right.entries.as_flattened());
+    same("store", store, after)
+}
+
+pub fn write(table: &[u8], words: &[u64], pool: &[u8], out_len: usize) -> Result<(), Differs> {
+    let right = write::write(table, words, pool, out_len);
+    let mut after = lent_bytes(out_len);
+    let mut out = after.clone();
+    let ours = reystavem::write(table, words, pool, &mut out).map_err(numbered);
+    same("answer", ours, right.as_ref().map(Vec::len).map_err(|refusal| (refusal.no, refusal.place)))?;
+    if let Ok(bytes) = right {
+        after[..bytes.len()].copy_from_slice(&bytes);
+    }
+    same("output", out, after)
+}
+
+fn append(old: &[u8], new: &[u8]) -> Result<(), Differs> {
+    let ours = reystavem::appends(old, new).map_err(|(side, refused)| (side == Side::New, numbered(refused)));
+    let right = appends(old, new).map_err(|(Refusal { no, place }, which)| (which == Which::New, (no, place)));
+    same("answer", ours, right)
+}
+
+fn feeding(idx: u64, array: [u8; ROOM], chunk: &[u8]) -> Result<(), Differs> {
+    let right = feed(idx, &array, chunk);
+    let mut state = Accumulator { array, idx };
+    let (fed, rest) = state.feed(chunk);
+    let (ours, message, len) = match fed {
+        Fed::Consumed => (20, [0; ROOM], 0),
+        Fed::OverFull => (21, [0; ROOM], 0),
+        Fed::BadFrame => (22, [0; ROOM], 0),
+        Fed::Frame { message, len } => (23, message, len),
+        Fed::BadState => (24, [0; ROOM], 0),
+    };
+    let mut padded = [0; ROOM];
+    padded[..right.message.len()].copy_from_slice(&right.message);
+    same("number and idx", (ours, state.idx), (right.no, right.idx))?;
+    same("rest", rest, right.rest)?;
+    same("message", (len, message), (right.message.len(), padded))?;
+    same("array", state.array, right.array)
+}
+
+pub fn take(kind: u64, message: &[u8], place: usize) -> Result<(), Differs> {
+    let ours = reystavem::take(kind, message, place).map_err(numbered);
+    let right = read::take(u8::try_from(kind).unwrap_or(u8::MAX), message, place);
+    same(
+        "answer",
+        ours.map(|(entry, behind)| ([entry.first, entry.second], behind)),
+        right.map_err(|Refusal { no, place }| (no, place)),
+    )
+}
+
+pub fn kind_of(line: &str) -> &'static str {
+    match &line[..1] {
+        "R" => "reading",
+        "W" => "writing",
+        "A" => "append question",
+        "F" => "frames",
+        "T" => "taking",
+        _ => "unknown",
+    }
+}
+
+/// One request line. A line that can't be parsed is a difference.
+pub fn judge(line: &str) -> Result<(), Differs> {
+    parsed(line).unwrap_or_else(|error| Err(Differs(error)))
+}
+
+fn parsed(line: &str) -> Result<Result<(), Differs>, String> {
+    let fields: Vec<&str> = line.split_ascii_whitespace().collect();
+    Ok(match fields[..] {
+        ["R", table, message, room] => {
+            let (table, message, room) = (unhex(table)?, unhex(message)?, number(room)? as usize);
+            check(&table).and_then(|()| read(&table, &message, room))
+        }
+        ["W", table, list, pool, out] => write(&unhex(table)?, &words(list)?, &unhex(pool)?, number(out)? as usize),
+        ["A", old, new] => append(&unhex(old)?, &unhex(new)?),
+        ["F", idx, array, chunk] => {
+            let array = unhex(array)?.try_into().map_err(|_| "the array isn't 256 bytes")?;
+            feeding(number(idx)?, array, &unhex(chunk)?)
+        }
+        ["T", kind, message, place] => take(number(kind)?, &unhex(message)?, number(place)? as usize),
+        _ => return Err("unknown request".into()),
+    })
+}

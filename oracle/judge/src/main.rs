@@ -1,0 +1,64 @@
+//! Holds every answer of the proved static library against the oracle: number, place, count, every
+//! word of the store, the rest, every byte of the output, the accumulator's array and message.
+//!
+//!   gen SEED COUNT | judge     request lines from stdin (PROTOCOL.md)
+//!   judge short                every message of up to two bytes, for each leaf kind and small tables
+//!
+//! Prints how many requests of each kind were compared, and each difference; exits with 1 if there was one.
+
+mod calls;
+mod short;
+
+use calls::Differs;
+use std::collections::BTreeMap;
+use std::io::{self, BufRead};
+
+fn lines() -> Tally {
+    let mut tally = Tally::default();
+    for line in io::stdin().lock().lines() {
+        let line = line.expect("stdin");
+        if line.is_empty() || line.starts_with('#') {
+            continue;
+        }
+        tally.note(calls::kind_of(&line), calls::judge(&line), || line.clone());
+    }
+    tally
+}
+
+/// How many requests of each kind were compared, and how many of them differ.
+#[derive(Default)]
+pub struct Tally {
+    seen: BTreeMap<&'static str, u64>,
+    differ: u64,
+}
+
+impl Tally {
+    pub fn note(&mut self, kind: &'static str, outcome: Result<(), Differs>, request: impl Fn() -> String) {
+        *self.seen.entry(kind).or_default() += 1;
+        if let Err(Differs(what)) = outcome {
+            self.differ += 1;
+            if self.differ <= 20 {
+                println!("DIFFERS {}\n  {what}", request());
+            }
+        }
+    }
+
+    fn print(&self) {
+        let all: u64 = self.seen.values().sum();
+        let kinds: Vec<String> = self.seen.iter().map(|(kind, count)| format!("{kind} {count}")).collect();
+        println!("{all} requests, {} differ ({})", self.differ, kinds.join(", "));
+    }
+}
+
+fn main() {
+    let tally = match std::env::args().nth(1).as_deref() {
+        None => lines(),
+        Some("short") => short::run(),
+        Some(_) => {
+            eprintln!("usage: gen SEED COUNT | judge, or judge short");
+            std::process::exit(2)
+        }
+    };
+    tally.print();
+    std::process::exit(i32::from(tally.differ > 0));
+}

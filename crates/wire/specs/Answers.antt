@@ -32,7 +32,7 @@ use Rattle.wire.specs.Append.{appends}
 
 -- ---- document 01's numbers
 
-unfoldable pub refusalNumber : Refusal → ℕ
+abbrev pub refusalNumber : Refusal → ℕ
 refusalNumber Trailer = 1
 refusalNumber Record = 2
 refusalNumber End = 3
@@ -46,7 +46,7 @@ refusalNumber Room = 10
 refusalNumber Values = 11
 refusalNumber Full = 12
 
-unfoldable pub feedNumber : FeedAnswer → ℕ
+abbrev pub feedNumber : FeedAnswer → ℕ
 feedNumber Consumed = 20
 feedNumber OverFull = 21
 feedNumber BadFrame = 22

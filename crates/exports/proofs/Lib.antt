@@ -1,0 +1,2 @@
+-- What the functions' answers come to, over plain values.
+pub mod Told

@@ -1,0 +1,77 @@
+-- What each function of the static library returns and leaves in the numbers, words and bytes that it was lent.
+-- Assumes nothing.
+use mathlib.Core.Path.{_≡_}
+use mathlib.Core.Bool.{Bool, true, false}
+use mathlib.Core.List.{List}
+use Prim.Native.Nat.{ℕ, _≤_}
+use lib.ListN.{length, drop}
+use Rattle.wire.specs.declared.Side.{Side}
+use Rattle.wire.specs.declared.Side.the-variants.{Old, New}
+use Rattle.wire.specs.declared.AskAnswer.{AskAnswer}
+use Rattle.wire.specs.declared.AskAnswer.the-variants.{Says, Refused as NotAsked}
+use Rattle.wire.specs.declared.TakeAnswer.{TakeAnswer}
+use Rattle.wire.specs.declared.TakeAnswer.the-variants.{Done as Taken, Refused as NotTaken}
+use Rattle.wire.specs.Reading.{Run}
+use Rattle.wire.specs.Answers.{feedNumber, Numbered, readSays, writeSays, takeSays, askSays, storeWith, readAnswer, placeAfter, Form, writeAnswer, outWith}
+use Rattle.accumulator.specs.Feeding.{Lent}
+
+-- document 01's number is returned, and the place left
+pub record Told (n : Numbered) (r p : ℕ) : Type 0 where
+  pub number : r ≡ n .number
+  pub place : p ≡ n .place
+
+pub record Read (w : Run) (store : List ℕ) (r p n : ℕ) (store′ : List ℕ) : Type 0 where
+  pub told : Told (readSays (readAnswer (w .ends) (length (w .made)))) r p
+  pub count : n ≡ length (w .made)
+  pub stored : store′ ≡ storeWith (w .made) store
+
+pub record Wrote (f : Form) (out : List ℕ) (r p : ℕ) (out′ : List ℕ) : Type 0 where
+  pub told : Told (writeSays (writeAnswer f)) r p
+  pub written : out′ ≡ outWith f out
+
+-- which table is refused: 0 old, 1 new
+unfoldable pub sideNumber : Side → ℕ
+sideNumber Old = 0
+sideNumber New = 1
+
+unfoldable pub whichOf : AskAnswer → ℕ
+whichOf (Says y) = 0
+whichOf (NotAsked t e i) = sideNumber t
+
+-- 1 for yes, 0 for no and on a refusal
+unfoldable pub bit : Bool → ℕ
+bit true = 1
+bit false = 0
+
+unfoldable pub yesOf : AskAnswer → ℕ
+yesOf (Says y) = bit y
+yesOf (NotAsked t e i) = 0
+
+pub record Asked (a : AskAnswer) (r p t y : ℕ) : Type 0 where
+  pub told : Told (askSays a) r p
+  pub which : t ≡ whichOf a
+  pub yes : y ≡ yesOf a
+
+pub record Fed (f : Lent) (chunk : List ℕ) (r i n from : ℕ) (array′ message′ : List ℕ) : Type 0 where
+  pub number : r ≡ feedNumber (f .fed .answer)
+  pub idx : i ≡ f .fed .idx
+  pub len : n ≡ length (f .fed .message)
+  pub within : from ≤ length chunk
+  pub rest : drop from chunk ≡ f .fed .rest
+  pub array : array′ ≡ f .fed .array
+  pub message : message′ ≡ f .message
+
+-- an item's words, 0 where it is refused
+unfoldable pub firstOf : TakeAnswer → ℕ
+firstOf (Taken a b p) = a
+firstOf (NotTaken e p) = 0
+
+unfoldable pub secondOf : TakeAnswer → ℕ
+secondOf (Taken a b p) = b
+secondOf (NotTaken e p) = 0
+
+pub record Took (t : TakeAnswer) (before r p a b : ℕ) : Type 0 where
+  pub number : r ≡ takeSays t .number
+  pub place : p ≡ placeAfter before t
+  pub first : a ≡ firstOf t
+  pub second : b ≡ secondOf t

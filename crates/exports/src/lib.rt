@@ -1,0 +1,64 @@
+// The static library for C and Rust: each public call over plain numbers and slices, as include/reystavem.h declares it.
+use wire::Checked;
+use wire::Refusal;
+ghost use mathlib.Core.Path.{_≡_};
+ghost use Rattle.wire.specs.Table.{check};
+ghost use Rattle.wire.specs.Answers.{refusalNumber, checkSays};
+ghost use Rattle.accumulator.specs.Feeding.{feedLent};
+ghost use Rattle.exports.specs.Calls.{Told, Fed};
+
+// Document 01's number of a refusal.
+fn number(why: Refusal) -> u64
+    ensures { λ r. ⌜ r ≡ refusalNumber why ⌝ }
+{
+    match why {
+        Refusal::Trailer => 1,
+        Refusal::Record => 2,
+        Refusal::End => 3,
+        Refusal::Varint => 4,
+        Refusal::Bool => 5,
+        Refusal::Char => 6,
+        Refusal::Utf8 => 7,
+        Refusal::Option => 8,
+        Refusal::Variant => 9,
+        Refusal::Room => 10,
+        Refusal::Values => 11,
+        Refusal::Full => 12,
+    }
+}
+
+#[no_mangle]
+pub extern "C" fn reystavem_check(table: &[u8], place: &mut u64) -> u64
+    ensures { λ r. ⌜ Told (checkSays (check (now (table .entry)))) r (now (place .exit)) ⌝ }
+{
+    let got = table::check(table);
+    match got {
+        Checked::Good { layout: _ } => {
+            *place = 0;
+            0
+        }
+        Checked::Bad { why, place: node } => {
+            *place = node as u64;
+            number(why)
+        }
+    }
+}
+
+#[no_mangle]
+pub extern "C" fn reystavem_feed(
+    array: &mut [u8],
+    chunk: &[u8],
+    message: &mut [u8],
+    idx: &mut u64,
+    len: &mut u64,
+    rest_from: &mut u64,
+) -> u64
+    ensures { λ r. ⌜ Fed (feedLent (now (array .entry)) (now (idx .entry)) (now (chunk .entry)) (now (message .entry))) (now (chunk .entry)) r (now (idx .exit)) (now (len .exit)) (now («rest_from» .exit)) (now (array .exit)) (now (message .exit)) ⌝ }
+{
+    let step = accumulator::feed_lent(array, *idx as usize, chunk, message);
+    *idx = step.idx as u64;
+    *len = step.len as u64;
+    *rest_from = step.used as u64;
+    let answer = step.answer;
+    accumulator::number(answer)
+}

@@ -73,6 +73,7 @@ fn at_place(got: Item, place: usize) -> Item
     }
 }
 
+// i8 to i64. The largest width names its constants, since its loop is inlined only so.
 fn signed(kind: u8, part: &[u8]) -> Item
     requires { ⌜ (1 ≤ kind) × (kind ≤ 4) ⌝ }
     ensures { λ r. ⌜ r ≡ head (kindOf kind) 0 0 (now (part .entry)) ⌝ }
@@ -81,10 +82,11 @@ fn signed(kind: u8, part: &[u8]) -> Item
         1 => fixint::take8(part, true),
         2 => unzigzag(varint::take_u16(part)),
         3 => unzigzag(varint::take_u32(part)),
-        _ => unzigzag(varint::take_u64(part)),
+        _ => unzigzag(varint::take(part, varint::U64::MOST, varint::U64::LAST)),
     }
 }
 
+// u8 to u64, likewise.
 fn unsigned(kind: u8, part: &[u8]) -> Item
     requires { ⌜ (5 ≤ kind) × (kind ≤ 8) ⌝ }
     ensures { λ r. ⌜ r ≡ head (kindOf kind) 0 0 (now (part .entry)) ⌝ }
@@ -93,10 +95,11 @@ fn unsigned(kind: u8, part: &[u8]) -> Item
         5 => fixint::take8(part, false),
         6 => varint::take_u16(part),
         7 => varint::take_u32(part),
-        _ => varint::take_u64(part),
+        _ => varint::take(part, varint::U64::MOST, varint::U64::LAST),
     }
 }
 
+// f32 and f64.
 fn float(kind: u8, part: &[u8]) -> Item
     requires { ⌜ (9 ≤ kind) × (kind ≤ 10) ⌝ }
     ensures { λ r. ⌜ r ≡ head (kindOf kind) 0 0 (now (part .entry)) ⌝ }

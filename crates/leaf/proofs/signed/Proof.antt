@@ -3,6 +3,9 @@
 use mathlib.Core.Path.{_≡_}
 use native.Mathlib.Omega.{arith}
 use borrow.Author.Needs.{needs}
+use Rattle.wire.specs.Shape.{w64}
+use Rattle.wire.specs.Numbers.{most, last}
+use Rattle.varint.proofs.Reading.{at-width}
 use Rattle.fixint.specs.Sizes.{byteOf}
 use Rattle.leaf.proofs.Leaves.{numbered}
 use Rattle.leaf.proofs.signed.Statement.{statement}
@@ -23,8 +26,8 @@ take-u32-requires c κs = search needs
 unzigzag-requires-2 : tie.Need-unzigzag-requires-2
 unzigzag-requires-2 c κs = search needs
 
-take-u64-requires : tie.Need-take-u64-requires
-take-u64-requires c κs = search needs
+take-requires : tie.Need-take-requires
+take-requires c κs = search needs
 
 unzigzag-requires-3 : tie.Need-unzigzag-requires-3
 unzigzag-requires-3 c κs = search needs
@@ -42,8 +45,8 @@ unfolding numbered
 returns-3 c = let e : c .before .before .before .before .args .kind ≡ 3 = omega arith in rw (e, ← c .before .take-u32 .ensures) (c .unzigzag2 .ensures)
 
 returns-4 : tie.Need-returns-4
-unfolding numbered
-returns-4 c = let e : c .before .before .before .before .args .kind ≡ 4 = omega arith in rw (e, ← c .before .take-u64 .ensures) (c .unzigzag3 .ensures)
+unfolding numbered most last
+returns-4 c = let e : c .before .before .before .before .args .kind ≡ 4 = omega arith in rw (e, ← at-width w64 _, ← c .before .take .ensures) (c .unzigzag3 .ensures)
 
 pub signed-spec : {M : Type 1} → statement M
 signed-spec =
@@ -54,7 +57,7 @@ signed-spec =
     unzigzag-requires
     take-u32-requires
     unzigzag-requires-2
-    take-u64-requires
+    take-requires
     unzigzag-requires-3
     returns
     returns-2

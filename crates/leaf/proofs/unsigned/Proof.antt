@@ -3,6 +3,9 @@
 use mathlib.Core.Path.{_≡_, sym, _∙_}
 use native.Mathlib.Omega.{arith}
 use borrow.Author.Needs.{needs}
+use Rattle.wire.specs.Shape.{w64}
+use Rattle.wire.specs.Numbers.{most, last}
+use Rattle.varint.proofs.Reading.{at-width}
 use Rattle.laws.proofs.Items.{on-unsigned}
 use Rattle.fixint.specs.Sizes.{byteOf}
 use Rattle.leaf.proofs.Leaves.{numbered}
@@ -18,8 +21,8 @@ take-u16-requires c κs = search needs
 take-u32-requires : tie.Need-take-u32-requires
 take-u32-requires c κs = search needs
 
-take-u64-requires : tie.Need-take-u64-requires
-take-u64-requires c κs = search needs
+take-requires : tie.Need-take-requires
+take-requires c κs = search needs
 
 returns : tie.Need-returns
 unfolding numbered byteOf
@@ -34,8 +37,8 @@ unfolding numbered
 returns-3 c = let e : c .before .before .before .args .kind ≡ 7 = omega arith in rw e (c .take-u32 .ensures ∙ sym (on-unsigned _))
 
 returns-4 : tie.Need-returns-4
-unfolding numbered
-returns-4 c = let e : c .before .before .before .args .kind ≡ 8 = omega arith in rw e (c .take-u64 .ensures ∙ sym (on-unsigned _))
+unfolding numbered most last
+returns-4 c = let e : c .before .before .before .args .kind ≡ 8 = omega arith in rw e (c .take .ensures ∙ at-width w64 _ ∙ sym (on-unsigned _))
 
 pub unsigned-spec : {M : Type 1} → statement M
 unsigned-spec =
@@ -44,7 +47,7 @@ unsigned-spec =
     take8-requires
     take-u16-requires
     take-u32-requires
-    take-u64-requires
+    take-requires
     returns
     returns-2
     returns-3

@@ -70,7 +70,7 @@ fn is_second(lead: u8, b: u8) -> bool
     }
 }
 
-// Whether the sequence that was looked for is there: the place behind it, or a byte that is out of its range or lacks.
+// How a sequence ends: at the place behind it, or nowhere, where a byte lacks or is out of its range.
 enum Sequence {
     Ends { place: usize },
     Bad,
@@ -230,6 +230,7 @@ pub fn first_char(s: &[u8]) -> u64
     value
 }
 
+// Whether a number is a code point: none is above 10FFFF, and a surrogate is none.
 pub fn is_char(c: u64) -> bool
     ensures { λ r. ⌜ r ≡ isChar c ⌝ }
 {
@@ -248,6 +249,7 @@ pub struct CharBytes {
     pub len: usize,
 }
 
+// The bytes of a char, by how many it has.
 fn form(c: u64) -> CharBytes
     requires { ⌜ isChar c ≡ true ⌝ }
     ensures { λ r. ⌜ Form c (r .bytes) (r .len) ⌝ }
@@ -344,7 +346,7 @@ pub fn take_char(part: &[u8]) -> Item
     char_of(&part[used..], first, used)
 }
 
-// Whether bytes may stand where a text is wanted, or any bytes are.
+// Whether bytes may be a content: a text must be UTF-8, and anything else may be any bytes.
 pub fn is_content(part: &[u8], text: bool) -> bool
     ensures { λ r. ⌜ r ≡ isContent (contentIf text) (now (part .entry)) ⌝ }
 {
@@ -354,7 +356,7 @@ pub fn is_content(part: &[u8], text: bool) -> bool
     true
 }
 
-// A text or bytes of `count` bytes, behind a count that took `used`, with which the offset begins.
+// A text or bytes of `count` bytes, behind a count that took `used`. The offset is counted from the count's first byte.
 fn content_of(part: &[u8], count: u64, used: usize, text: bool) -> Item
     requires { ⌜ used + length (now part) < 2 ^ 64 ⌝ }
     ensures { λ r. ⌜ r ≡ contentOf (contentIf text) 0 count used (now (part .entry)) ⌝ }

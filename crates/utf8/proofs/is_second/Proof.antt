@@ -8,8 +8,6 @@ use Rattle.wire.specs.Text.{lowOf, highOf}
 use Rattle.utf8.specs.Scan.{isSecond}
 use Rattle.utf8.proofs.is_second.Statement.{statement}
 use Rattle.utf8.proofs.is_second.Tie as tie
-use Rattle.utf8.proofs.is_second.Lts as lts
-use Rattle.utf8.proofs.is_second.Reads as reads
 
 is-in-requires : tie.Need-is-in-requires
 is-in-requires c κs = search needs

@@ -1,0 +1,83 @@
+-- A yes is given of good tables only; how the old shape tells the new entries apart decides which of the two cases holds.
+-- Assumes nothing.
+use mathlib.Core.Path.{_≡_, refl, sym, ap, _∙_}
+use mathlib.Core.Bool.{true}
+use mathlib.Core.List.{List, _++_}
+use mathlib.Core.Option.{some}
+use Prim.Native.Nat.{ℕ}
+use native.Mathlib.Omega.{arith}
+use Rattle.wire.specs.declared.Refusal.{Refusal}
+use Rattle.wire.specs.declared.Refusal.the-variants.{Variant}
+use Rattle.wire.specs.declared.Layout.{Layout}
+use Rattle.wire.specs.declared.Checked.{Checked}
+use Rattle.wire.specs.declared.Checked.the-variants.{Good, Bad}
+use Rattle.wire.specs.declared.AskAnswer.the-variants.{Says}
+use Rattle.wire.specs.Shape.{Shape}
+use Rattle.wire.specs.Table.{check}
+use Rattle.wire.specs.Values.{Entry, Told, kept, lacks, short, tell, Value, Valued, whole, tooShort, values}
+use Rattle.wire.specs.Reading.{Spot, Outcome, reached, refused, Run}
+use Rattle.wire.specs.Answers.{askBy, asks}
+use Rattle.laws.proofs.Unique.{by-equation}
+use Rattle.promises.specs.OldNew.{over, seen, OldValues, all-kept, cut}
+use Rattle.promises.proofs.Told.{tells-all}
+use Rattle.promises.proofs.Question.{old-new}
+use Rattle.append.specs.Promise.{OneAnswer, AppendsTo, YesExactly, OldMakes, same, unknown, OldTableReads}
+
+pub one-answer : OneAnswer
+one-answer old new = by-equation (asks old new)
+
+-- ---- yes
+
+-- a yes is of two good tables
+both-good : (c d : Checked) (old new : List ℕ) → askBy c d old new ≡ Says true → (l m : Layout) × (c ≡ Good l) × (d ≡ Good m)
+unfolding askBy
+both-good (Good l) (Good m) old new e = (l, m, refl, refl)
+both-good (Good l) (Bad w i) old new e = let z : _≡_ {A = ℕ} 0 1 = cc in absurd (omega arith)
+both-good (Bad w i) d old new e = let z : _≡_ {A = ℕ} 0 1 = cc in absurd (omega arith)
+
+good-tables : (old new : List ℕ) → asks old new ≡ Says true → (l m : Layout) × (check old ≡ Good l) × (check new ≡ Good m)
+unfolding asks
+good-tables old new e = both-good (check old) (check new) old new e
+
+pub yes-exactly : YesExactly
+yes-exactly old new = (to, λ a. old-new old new _ _ (a .goodOld) (a .goodNew) .yes-exactly .1 (a .appends))
+  where
+    to : asks old new ≡ Says true → AppendsTo old new
+    to y =
+        let (l, m, goodOld, goodNew) = good-tables old new y in
+        record { oldLayout = l; newLayout = m; goodOld = goodOld; goodNew = goodNew; appends = old-new old new l m goodOld goodNew .yes-exactly .0 y }
+
+-- ---- the old table's reading
+
+-- the values of a reading that ended well, and of one that was refused
+kept-values : {vs : List Value} {o : Outcome} {v : Valued} {x : Spot} → OldValues vs o v → o ≡ reached x
+    → (us more : List Value) × (v ≡ whole us) × (vs ≡ us ++ more)
+kept-values (all-kept {us} more e) h = (us, more, refl, e)
+kept-values (cut more e) h = let z : _≡_ {A = ℕ} 0 1 = cc in absurd (omega arith)
+
+cut-values : {vs : List Value} {o : Outcome} {v : Valued} {w : Refusal} {p : ℕ} → OldValues vs o v → o ≡ refused w p
+    → (us more : List Value) × (v ≡ tooShort us) × (vs ≡ us ++ more)
+cut-values (all-kept more e) h = let z : _≡_ {A = ℕ} 0 1 = cc in absurd (omega arith)
+cut-values (cut {us} more e) h = (us, more, refl, e)
+
+one-run : {a b : Run} → some a ≡ some b → b ≡ a
+one-run e = cc
+
+module _ (t : Shape) (message : List ℕ) (end : ℕ) (es : List Entry) (vs : List Value) where
+  by-told : (w : Told) → tell t es ≡ w → over w ≡ es → (r : Run) → seen message end w ≡ some r → OldValues vs (r .ends) (values t message (r .made))
+      → OldMakes t message end es vs r
+  unfolding over seen
+  by-told (kept ts rest) e all r s v =
+      let (us, more, are, front) = kept-values v (ap (λ r. r .ends) (one-run s)) in
+      rw (one-run s) (same ts rest us more e (sym all) (ap (λ r. values t message (r .made)) (sym (one-run s)) ∙ are) front)
+  by-told (lacks ts x rest) e all r s v =
+      let (us, more, are, front) = cut-values v (ap (λ r. r .ends) (one-run s)) in
+      rw (one-run s) (unknown ts x rest us more e (sym all) (ap (λ r. values t message (r .made)) (sym (one-run s)) ∙ are) front)
+  by-told (short ts) e all r s v = let z : _≡_ {A = ℕ} 0 1 = cc in absurd (omega arith)
+
+pub old-table-reads : OldTableReads
+old-table-reads old new y message store es end h =
+    let (l, m, goodOld, goodNew) = good-tables old new y in
+    let promise = old-new old new l m goodOld goodNew in
+    let (vs, are, olds) = promise .never-another y message store es end h in
+    (l, m, goodOld, goodNew, vs, are, by-told _ message (end .place) es vs _ refl (tells-all _ es) _ (promise .old-sees y message store es end h) olds)

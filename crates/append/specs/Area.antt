@@ -1,0 +1,31 @@
+-- The work area: a bit for each pair of an old node and a new one, set once the pair was found to match.
+-- Assumes nothing.
+use mathlib.Core.Path.{_≡_}
+use mathlib.Core.Bool.{Bool, true}
+use mathlib.Core.List.{List}
+use Prim.Native.Nat.{ℕ, _+_, _*_, _/_, _%_, _^_, _<_}
+use lib.Dec.{eqb}
+use lib.ListN.{getD, set}
+use Rattle.wire.specs.declared.Layout.{Layout}
+use Rattle.wire.specs.Tests.{pick}
+use Rattle.wire.specs.Append.{matches}
+use Rattle.laws.specs.Tables.{nodeShape}
+
+-- how many bits an old node has, and how many bytes they take in all
+abbrev pub width : ℕ
+width = 256
+
+abbrev pub area : ℕ
+area = 8192
+
+-- bit k of the area is set
+unfoldable pub marked : List ℕ → ℕ → Bool
+marked a k = eqb (getD a (k / 8) 0 / 2 ^ (k % 8) % 2) 1
+
+-- the area with bit k set
+unfoldable pub marking : List ℕ → ℕ → List ℕ
+marking a k = pick (marked a k) a (set a (k / 8) (getD a (k / 8) 0 + 2 ^ (k % 8)))
+
+-- every pair that is marked matches
+pub record Sound (s : List ℕ) (l : Layout) (t : List ℕ) (m : Layout) (a : List ℕ) : Type 0 where
+  pub found : (i j : ℕ) → i < l .nodes → j < m .nodes → marked a (i * width + j) ≡ true → matches (nodeShape s l i) (nodeShape t m j) ≡ true

@@ -30,7 +30,7 @@ pub record Wrote (f : Form) (out : List ℕ) (r p : ℕ) (out′ : List ℕ) : T
   pub written : out′ ≡ outWith f out
 
 -- which table is refused: 0 old, 1 new
-unfoldable pub sideNumber : Side → ℕ
+abbrev pub sideNumber : Side → ℕ
 sideNumber Old = 0
 sideNumber New = 1
 
@@ -39,7 +39,7 @@ whichOf (Says y) = 0
 whichOf (NotAsked t e i) = sideNumber t
 
 -- 1 for yes, 0 for no and on a refusal
-unfoldable pub bit : Bool → ℕ
+abbrev pub bit : Bool → ℕ
 bit true = 1
 bit false = 0
 

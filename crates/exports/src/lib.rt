@@ -1,11 +1,13 @@
 // The static library for C and Rust: each public call over plain numbers and slices, as include/reystavem.h declares it.
+use wire::AskAnswer;
 use wire::Checked;
 use wire::Refusal;
+use wire::Side;
 ghost use mathlib.Core.Path.{_≡_};
 ghost use Rattle.wire.specs.Table.{check};
-ghost use Rattle.wire.specs.Answers.{refusalNumber, checkSays};
+ghost use Rattle.wire.specs.Answers.{refusalNumber, checkSays, asks};
 ghost use Rattle.accumulator.specs.Feeding.{feedLent};
-ghost use Rattle.exports.specs.Calls.{Told, Fed};
+ghost use Rattle.exports.specs.Calls.{Told, sideNumber, Asked, Fed};
 
 // Document 01's number of a refusal.
 fn number(why: Refusal) -> u64
@@ -27,6 +29,16 @@ fn number(why: Refusal) -> u64
     }
 }
 
+// 0 for the old table, 1 for the new one.
+fn side_number(side: Side) -> u64
+    ensures { λ r. ⌜ r ≡ sideNumber side ⌝ }
+{
+    match side {
+        Side::Old => 0,
+        Side::New => 1,
+    }
+}
+
 #[no_mangle]
 pub extern "C" fn reystavem_check(table: &[u8], place: &mut u64) -> u64
     ensures { λ r. ⌜ Told (checkSays (check (now (table .entry)))) r (now (place .exit)) ⌝ }
@@ -39,6 +51,37 @@ pub extern "C" fn reystavem_check(table: &[u8], place: &mut u64) -> u64
         }
         Checked::Bad { why, place: node } => {
             *place = node as u64;
+            number(why)
+        }
+    }
+}
+
+#[no_mangle]
+pub extern "C" fn reystavem_append(
+    old_table: &[u8],
+    new_table: &[u8],
+    place: &mut u64,
+    which: &mut u64,
+    yes: &mut u64,
+) -> u64
+    ensures { λ r. ⌜ Asked (asks (now («old_table» .entry)) (now («new_table» .entry))) r (now (place .exit)) (now (which .exit)) (now (yes .exit)) ⌝ }
+{
+    let got = append::appends(old_table, new_table);
+    match got {
+        AskAnswer::Says { yes: says } => {
+            *place = 0;
+            *which = 0;
+            *yes = says as u64;
+            0
+        }
+        AskAnswer::Refused {
+            side,
+            why,
+            place: node,
+        } => {
+            *place = node as u64;
+            *which = side_number(side);
+            *yes = 0;
             number(why)
         }
     }

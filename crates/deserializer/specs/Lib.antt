@@ -1,0 +1,2 @@
+-- What is stated of the calls.
+pub mod Unique

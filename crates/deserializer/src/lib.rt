@@ -1,0 +1,76 @@
+// Items taken one after the other from a message, each by its kind: a record of the message and the place, and the same calls
+// with the message and the place as parameters. The borrow checker covers no function over the record, so each of those is
+// proved by hand and leaves the work to a covered one.
+use wire::Item;
+use wire::Refusal;
+use wire::TakeAnswer;
+ghost use mathlib.Core.Path.{_≡_};
+ghost use lib.ListN.{drop};
+ghost use Rattle.wire.specs.Answers.{mayTake, takes, placeAfter};
+
+// Whether an item of the kind can be taken by itself.
+fn may_take(kind: u64) -> bool
+    ensures { λ r. ⌜ r ≡ mayTake kind ⌝ }
+{
+    match kind {
+        0..=13 => true,
+        20..=31 => true,
+        _ => false,
+    }
+}
+
+// The item of a kind at a place of the message.
+pub fn take_at(kind: u64, message: &[u8], place: usize) -> TakeAnswer
+    ensures { λ r. ⌜ r ≡ takes kind (now (message .entry)) place ⌝ }
+{
+    if !may_take(kind) {
+        return TakeAnswer::Refused {
+            why: Refusal::Record,
+            place: 0,
+        };
+    }
+    if message.len() < place {
+        return TakeAnswer::Refused {
+            why: Refusal::End,
+            place,
+        };
+    }
+    let got = leaf::take(kind as u8, &message[place..], place);
+    match got {
+        Item::Took {
+            first,
+            second,
+            used,
+        } => {
+            let behind = place + used;
+            TakeAnswer::Done {
+                first,
+                second,
+                place: behind,
+            }
+        }
+        Item::Refused { why } => TakeAnswer::Refused { why, place },
+    }
+}
+
+// The place of the next item: behind the one that was taken, or the old one.
+pub fn place_after(place: usize, answer: TakeAnswer) -> usize
+    ensures { λ r. ⌜ r ≡ placeAfter place answer ⌝ }
+{
+    match answer {
+        TakeAnswer::Done { place: behind, .. } => behind,
+        TakeAnswer::Refused { .. } => place,
+    }
+}
+
+// The bytes from a place on; none where it is beyond the message.
+pub fn rest_at(message: &[u8], place: usize) -> &[u8]
+    ensures { λ r. ⌜ now r ≡ drop place (now (message .entry)) ⌝ }
+{
+    let end = message.len();
+    if place <= end {
+        &message[place..]
+    } else {
+        &message[end..]
+    }
+}

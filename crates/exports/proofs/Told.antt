@@ -10,9 +10,11 @@ use Rattle.wire.specs.declared.Checked.the-variants.{Good, Bad}
 use Rattle.wire.specs.declared.Side.{Side}
 use Rattle.wire.specs.declared.AskAnswer.{AskAnswer}
 use Rattle.wire.specs.declared.AskAnswer.the-variants.{Says, Refused as NotAsked}
+use Rattle.wire.specs.declared.TakeAnswer.{TakeAnswer}
+use Rattle.wire.specs.declared.TakeAnswer.the-variants.{Done as Taken, Refused as NotTaken}
 use mir.Val.{boolByte}
-use Rattle.wire.specs.Answers.{refusalNumber, numbered, done, checkSays, askSays}
-use Rattle.exports.specs.Calls.{Told, sideNumber, whichOf, bit, yesOf, Asked}
+use Rattle.wire.specs.Answers.{refusalNumber, numbered, done, checkSays, takeSays, askSays, placeAfter}
+use Rattle.exports.specs.Calls.{Told, sideNumber, whichOf, bit, yesOf, Asked, firstOf, secondOf, Took}
 
 -- ---- the check
 
@@ -37,3 +39,13 @@ ask-says {y} e g = rw (← e, g) (record { told = record { number = refl; place 
 pub ask-refused : {a r : AskAnswer} {t : Side} {w : Refusal} {i n m : ℕ} → r ≡ a → r ≡ NotAsked t w i → n ≡ refusalNumber w → m ≡ sideNumber t → Asked a n i m 0
 unfolding askSays numbered whichOf yesOf
 ask-refused e g h k = rw (← e, g) (record { told = record { number = h; place = refl }; which = k; yes = refl })
+
+-- ---- one item
+
+pub take-done : {t r : TakeAnswer} {at a b p : ℕ} → r ≡ t → r ≡ Taken a b p → Took t at 0 p a b
+unfolding takeSays done placeAfter firstOf secondOf
+take-done e g = rw (← e, g) (record { number = refl; place = refl; first = refl; second = refl })
+
+pub take-refused : {t r : TakeAnswer} {at p n : ℕ} {w : Refusal} → r ≡ t → r ≡ NotTaken w p → n ≡ refusalNumber w → Took t at n at 0 0
+unfolding takeSays numbered placeAfter firstOf secondOf
+take-refused e g h = rw (← e, g) (record { number = h; place = refl; first = refl; second = refl })

@@ -3,11 +3,12 @@ use wire::AskAnswer;
 use wire::Checked;
 use wire::Refusal;
 use wire::Side;
+use wire::TakeAnswer;
 ghost use mathlib.Core.Path.{_≡_};
 ghost use Rattle.wire.specs.Table.{check};
-ghost use Rattle.wire.specs.Answers.{refusalNumber, checkSays, asks};
+ghost use Rattle.wire.specs.Answers.{refusalNumber, checkSays, takes, asks};
 ghost use Rattle.accumulator.specs.Feeding.{feedLent};
-ghost use Rattle.exports.specs.Calls.{Told, sideNumber, Asked, Fed};
+ghost use Rattle.exports.specs.Calls.{Told, sideNumber, Asked, Fed, Took};
 
 // Document 01's number of a refusal.
 fn number(why: Refusal) -> u64
@@ -104,4 +105,34 @@ pub extern "C" fn reystavem_feed(
     *rest_from = step.used as u64;
     let answer = step.answer;
     accumulator::number(answer)
+}
+
+#[no_mangle]
+pub extern "C" fn reystavem_take(
+    kind: u64,
+    message: &[u8],
+    place: &mut u64,
+    first: &mut u64,
+    second: &mut u64,
+) -> u64
+    ensures { λ r. ⌜ Took (takes kind (now (message .entry)) (now (place .entry))) (now (place .entry)) r (now (place .exit)) (now (first .exit)) (now (second .exit)) ⌝ }
+{
+    let got = deserializer::take_at(kind, message, *place as usize);
+    match got {
+        TakeAnswer::Done {
+            first: a,
+            second: b,
+            place: behind,
+        } => {
+            *place = behind as u64;
+            *first = a;
+            *second = b;
+            0
+        }
+        TakeAnswer::Refused { why, place: _ } => {
+            *first = 0;
+            *second = 0;
+            number(why)
+        }
+    }
 }

@@ -2,19 +2,25 @@
 -- Assumes nothing.
 use mathlib.Core.Path.{_≡_, refl, sym, ap, _∙_}
 use mathlib.Core.Bool.{Bool, true, false}
+use mathlib.Core.List.{List}
 use Prim.Native.Nat.{ℕ}
+use lib.ListN.{length}
 use Rattle.wire.specs.declared.Refusal.{Refusal}
 use Rattle.wire.specs.declared.Layout.{Layout}
 use Rattle.wire.specs.declared.Checked.{Checked}
 use Rattle.wire.specs.declared.Checked.the-variants.{Good, Bad}
+use Rattle.wire.specs.declared.ReadAnswer.{ReadAnswer}
+use Rattle.wire.specs.declared.ReadAnswer.the-variants.{Done, Refused as NotRead}
 use Rattle.wire.specs.declared.Side.{Side}
 use Rattle.wire.specs.declared.AskAnswer.{AskAnswer}
 use Rattle.wire.specs.declared.AskAnswer.the-variants.{Says, Refused as NotAsked}
 use Rattle.wire.specs.declared.TakeAnswer.{TakeAnswer}
 use Rattle.wire.specs.declared.TakeAnswer.the-variants.{Done as Taken, Refused as NotTaken}
 use mir.Val.{boolByte}
-use Rattle.wire.specs.Answers.{refusalNumber, numbered, done, checkSays, takeSays, askSays, placeAfter}
-use Rattle.exports.specs.Calls.{Told, sideNumber, whichOf, bit, yesOf, Asked, firstOf, secondOf, Took}
+use Rattle.wire.specs.Reading.{Run, Outcome, reached, refused}
+use Rattle.reader.specs.Promise.{Reads}
+use Rattle.wire.specs.Answers.{refusalNumber, numbered, done, checkSays, readSays, takeSays, askSays, readAnswer, placeAfter}
+use Rattle.exports.specs.Calls.{Told, Read, sideNumber, whichOf, bit, yesOf, Asked, firstOf, secondOf, Took}
 
 -- ---- the check
 
@@ -25,6 +31,33 @@ check-good e g = rw (← e, g) (record { number = refl; place = refl })
 pub check-bad : {c r : Checked} {w : Refusal} {i n : ℕ} → r ≡ c → r ≡ Bad w i → n ≡ refusalNumber w → Told (checkSays c) n i
 unfolding checkSays numbered
 check-bad e g h = rw (← e, g) (record { number = h; place = refl })
+
+-- ---- reading
+
+-- the count that an answer tells is the one that it was made with
+countOf : ReadAnswer → ℕ
+countOf (Done p n) = n
+countOf (NotRead e p n) = n
+
+count-of : (o : Outcome) (n : ℕ) → countOf (readAnswer o n) ≡ n
+unfolding countOf readAnswer
+count-of (reached x) n = refl
+count-of (refused e p) n = refl
+
+module _ {w : Run} {store left : List ℕ} {r : ReadAnswer} (h : Reads w store r left) where
+  said : {a : ReadAnswer} → r ≡ a → readAnswer (w .ends) (length (w .made)) ≡ a
+  said g = sym (h .answered) ∙ g
+
+  counted : {a : ReadAnswer} → r ≡ a → countOf a ≡ length (w .made)
+  counted g = ap countOf (sym (said g)) ∙ count-of (w .ends) (length (w .made))
+
+  pub read-done : {p n : ℕ} → r ≡ Done p n → Read w store 0 p n left
+  unfolding readSays done countOf
+  read-done g = record { told = rw (said g) (record { number = refl; place = refl }); count = counted g; stored = h .stored }
+
+  pub read-refused : {e : Refusal} {p n m : ℕ} → r ≡ NotRead e p n → m ≡ refusalNumber e → Read w store m p n left
+  unfolding readSays numbered countOf
+  read-refused g k = record { told = rw (said g) (record { number = k; place = refl }); count = counted g; stored = h .stored }
 
 -- ---- the append question
 

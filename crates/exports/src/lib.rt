@@ -1,14 +1,15 @@
 // The static library for C and Rust: each public call over plain numbers and slices, as include/reystavem.h declares it.
 use wire::AskAnswer;
 use wire::Checked;
+use wire::ReadAnswer;
 use wire::Refusal;
 use wire::Side;
 use wire::TakeAnswer;
 ghost use mathlib.Core.Path.{_≡_};
 ghost use Rattle.wire.specs.Table.{check};
-ghost use Rattle.wire.specs.Answers.{refusalNumber, checkSays, takes, asks};
+ghost use Rattle.wire.specs.Answers.{refusalNumber, checkSays, reads, takes, asks};
 ghost use Rattle.accumulator.specs.Feeding.{feedLent};
-ghost use Rattle.exports.specs.Calls.{Told, sideNumber, Asked, Fed, Took};
+ghost use Rattle.exports.specs.Calls.{Told, Read, sideNumber, Asked, Fed, Took};
 
 // Document 01's number of a refusal.
 fn number(why: Refusal) -> u64
@@ -52,6 +53,38 @@ pub extern "C" fn reystavem_check(table: &[u8], place: &mut u64) -> u64
         }
         Checked::Bad { why, place: node } => {
             *place = node as u64;
+            number(why)
+        }
+    }
+}
+
+#[no_mangle]
+pub extern "C" fn reystavem_read(
+    table: &[u8],
+    message: &[u8],
+    store: &mut [u64],
+    place: &mut u64,
+    count: &mut u64,
+) -> u64
+    ensures { λ r. ⌜ Read (reads (now (table .entry)) (now (message .entry)) (now (store .entry))) (now (store .entry)) r (now (place .exit)) (now (count .exit)) (now (store .exit)) ⌝ }
+{
+    let got = reader::read(table, message, store);
+    match got {
+        ReadAnswer::Done {
+            place: end,
+            count: made,
+        } => {
+            *place = end as u64;
+            *count = made as u64;
+            0
+        }
+        ReadAnswer::Refused {
+            why,
+            place: at,
+            count: made,
+        } => {
+            *place = at as u64;
+            *count = made as u64;
             number(why)
         }
     }

@@ -1,0 +1,4 @@
+-- The proofs of what specs/ states, and what the loops know.
+pub mod Digits
+pub mod Numbers
+pub mod Unique

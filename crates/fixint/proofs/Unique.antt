@@ -1,0 +1,10 @@
+-- Each contract is an equation.
+-- Assumes nothing.
+use Rattle.laws.proofs.Unique.{by-equation}
+use Rattle.fixint.specs.Unique.{OneArray, OneTake}
+
+pub one-array : OneArray
+one-array o w x = by-equation _
+
+pub one-take : OneTake
+one-take l s = by-equation _

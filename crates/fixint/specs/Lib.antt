@@ -1,0 +1,3 @@
+-- What the contracts of fixed-size numbers cite, and what is stated of them.
+pub mod Sizes
+pub mod Unique

@@ -1,0 +1,18 @@
+-- Each call's contract leaves no choice.
+-- Assumes nothing.
+use mathlib.Core.Path.{_≡_}
+use mathlib.Core.List.{List}
+use Prim.Native.Nat.{ℕ}
+use Rattle.wire.specs.declared.Item.{Item}
+use Rattle.wire.specs.Shape.{Width, size, Order, Leaf}
+use Rattle.wire.specs.Numbers.{littleBytes, inOrder}
+use Rattle.wire.specs.Reading.{readLeaf}
+use Rattle.laws.specs.Unique.{Unique}
+
+-- the encoders
+abbrev pub OneArray : Type 0
+OneArray = (o : Order) (w : Width) (x : ℕ) → Unique (λ (r : List ℕ). r ≡ inOrder o (littleBytes (size w) x))
+
+-- the decoders
+abbrev pub OneTake : Type 0
+OneTake = (l : Leaf) (s : List ℕ) → Unique (λ (r : Item). r ≡ readLeaf l s)

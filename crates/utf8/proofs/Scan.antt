@@ -1,0 +1,117 @@
+-- A check that stands inside a sequence, or between two, and what one byte more makes of it.
+-- Assumes nothing.
+use mathlib.Core.Path.{_≡_, refl, sym, subst, _∙_}
+use mathlib.Core.Bool.{Bool, true, false, not}
+use mathlib.Core.List.{List, [], _∷_}
+use Prim.Native.Nat.{ℕ, zero, suc, _+_, _-_, _<_, _≤_}
+use native.Mathlib.Omega.{arith}
+use lib.ListN.{length, getD, drop, drop-of-length-le, length-drop}
+use lib.Dec.{leb}
+use borrow.Author.Tests.{lt-ltb, le-ltb, not-true, not-false}
+use Rattle.wire.specs.Tests.{both}
+use Rattle.wire.specs.Text.{widthOf, lowOf, highOf, utf8F, utf8}
+use Rattle.laws.proofs.Splits.{by-test, by-lt}
+use Rattle.laws.proofs.Parts.{next}
+use Rattle.laws.proofs.Utf8.{width-one, width-none, width-two, width-three, width-four, width-high, width-few}
+use Rattle.utf8.specs.Scan.{Lead, Same}
+
+-- `left` more bytes of a sequence at i, the next of them from lo to hi, and then whole sequences, are what a text is from `from` on
+pub record Scan (s : List ℕ) (from left lo hi i : ℕ) : Type 0 where
+  pub same : utf8F left lo hi (drop i s) ≡ utf8 (drop from s)
+
+-- between sequences there is no range
+between : (lo hi : ℕ) (t : List ℕ) → utf8F 0 lo hi t ≡ utf8 t
+unfolding utf8F utf8
+between lo hi [] = refl
+between lo hi (b ∷ t) = refl
+
+-- ---- inside a sequence
+
+-- a sequence that lacks bytes is none
+lacks : (k lo hi : ℕ) (t : List ℕ) → length t < k → utf8F k lo hi t ≡ false
+unfolding utf8F both
+lacks zero lo hi t h = absurd (omega arith)
+lacks (suc k) lo hi [] h = refl
+lacks (suc k) lo hi (b ∷ t) h =
+    by-test (both (leb lo b) (leb b hi)) (λ e. rw e (lacks k 0x80 0xbf t (omega arith))) (λ e. rw e)
+
+module _ {s : List ℕ} {from left lo hi i : ℕ} (r : Scan s from left lo hi i) where
+  pub short : i ≤ length s → length s < i + left → utf8 (drop from s) ≡ false
+  short l h = sym (r .same) ∙ lacks left lo hi (drop i s) (simp length-drop (omega arith))
+
+  pub done : (to : ℕ) → left ≡ 0 → i ≡ to → from ≤ i → i ≤ length s → Same s from to
+  done to z e up inside =
+      let here : utf8 (drop i s) ≡ utf8 (drop from s) = sym (between lo hi (drop i s)) ∙ rw z at (r .same) in
+      subst (Same s from) e (record { up = up; inside = inside; same = here })
+
+  -- the next byte
+  module _ (h : i < length s) (k : ℕ) (more : left ≡ suc k) where
+    out : both (leb lo (getD s i 0)) (leb (getD s i 0) hi) ≡ false → utf8 (drop from s) ≡ false
+    unfolding utf8F both
+    out e = sym (rw (next s i h, more, e) at (r .same))
+
+    in-range : both (leb lo (getD s i 0)) (leb (getD s i 0) hi) ≡ true → Scan s from k 0x80 0xbf (i + 1)
+    unfolding utf8F both
+    in-range e = record { same = rw (next s i h, more, e) at (r .same) }
+
+    -- by the answer ok of a test of its range
+    module _ {ok : Bool} (e : ok ≡ both (leb lo (getD s i 0)) (leb (getD s i 0) hi)) where
+      pub refuses : not ok ≡ true → utf8 (drop from s) ≡ false
+      refuses f = out (sym e ∙ not-true ok f)
+
+      pub goes-on : (j : ℕ) → i + 1 ≡ j → not ok ≡ false → Scan s from k 0x80 0xbf j
+      goes-on j place f = subst (Scan s from k 0x80 0xbf) place (in-range (sym e ∙ not-false ok f))
+
+-- ---- at a lead byte
+
+-- one that is no single byte starts a sequence of two to four bytes, or none
+pub two : (b : ℕ) → 0x80 ≤ b → {w : ℕ} → w ≡ widthOf b → (w ≡ 0 → ⊥) → 2 ≤ w
+two b l e z =
+    by-lt b 0xc2 (λ h. absurd (z (omega (arith, width-none b l h))))
+    (λ l. by-lt b 0xe0 (λ h. omega (arith, width-two b l h))
+    (λ l. by-lt b 0xf0 (λ h. omega (arith, width-three b l h))
+    (λ l. by-lt b 0xf5 (λ h. omega (arith, width-four b l h)) (λ l. absurd (z (omega (arith, width-high b l)))))))
+
+module _ {s : List ℕ} {at w : ℕ} (l : Lead s at) (e : w ≡ widthOf (getD s at 0)) where
+  pub no-lead : w ≡ 0 → utf8 (drop at s) ≡ false
+  unfolding utf8 utf8F both
+  no-lead z = rw (next s at (l .inside), le-ltb 0 (widthOf (getD s at 0)) (omega arith))
+
+  pub opens : (w ≡ 0 → ⊥) → Scan s at (w - 1) (lowOf (getD s at 0)) (highOf (getD s at 0)) (at + 1)
+  unfolding utf8 utf8F both
+  opens z = record { same = rw (next s at (l .inside), e, lt-ltb 0 (widthOf (getD s at 0)) (omega (arith, z))) }
+
+-- ---- from a place to a later one
+
+pub here : (s : List ℕ) (i : ℕ) → i ≤ length s → Same s i i
+here s i h = record { up = omega arith; inside = h; same = refl }
+
+pub on : {s : List ℕ} {i j k : ℕ} → Same s i j → Same s j k → Same s i k
+on p q = record { up = omega arith; inside = q .inside; same = q .same ∙ p .same }
+
+-- past a single byte
+pub single : {s : List ℕ} {from i : ℕ} (j : ℕ) → i + 1 ≡ j → i < length s → getD s i 0 < 0x80 → Same s from i → Same s from j
+unfolding utf8 utf8F both
+single {s} {from} {i} j e h b r =
+    let past : utf8 (drop (i + 1) s) ≡ utf8 (drop i s) = rw (next s i h, width-one (getD s i 0) b) (sym (between _ _ (drop (i + 1) s))) in
+    on r (subst (Same s i) e (record { up = omega arith; inside = omega arith; same = past }))
+
+-- past up to four of them
+module _ {s : List ℕ} {from i : ℕ} (r : Same s from i) (h : i + 4 ≤ length s) (b0 : getD s i 0 < 0x80) where
+  pub one-on : Same s from (i + 1)
+  one-on = single (i + 1) refl (omega arith) b0 r
+
+  module _ (b1 : getD s (i + 1) 0 < 0x80) where
+    pub two-on : Same s from (i + 2)
+    two-on = single (i + 2) (omega arith) (omega arith) b1 one-on
+
+    module _ (b2 : getD s (i + 2) 0 < 0x80) where
+      pub three-on : Same s from (i + 3)
+      three-on = single (i + 3) (omega arith) (omega arith) b2 two-on
+
+      pub four-on : getD s (i + 3) 0 < 0x80 → Same s from (i + 4)
+      four-on b3 = single (i + 4) (omega arith) (omega arith) b3 three-on
+
+pub all-read : {s : List ℕ} {i : ℕ} → Same s 0 i → length s ≤ i → true ≡ utf8 s
+unfolding utf8 utf8F
+all-read {s} {i} r h = rw (drop-of-length-le s h) at (r .same)

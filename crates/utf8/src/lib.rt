@@ -1,0 +1,358 @@
+// UTF-8: whether bytes are a text, a text's first char, a char's bytes, and the items that hold text.
+use wire::Item;
+use wire::Refusal;
+ghost use mathlib.Core.Path.{_≡_};
+ghost use mathlib.Core.Bool.{true};
+ghost use Prim.Native.Nat.{_+_, _<_, _^_};
+ghost use lib.Dec.{leb};
+ghost use lib.ListN.{length};
+ghost use Rattle.wire.specs.Tests.{both};
+ghost use Rattle.wire.specs.Text.{widthOf, utf8, firstChar, isChar};
+ghost use Rattle.wire.specs.Shape.{char, pooled};
+ghost use Rattle.wire.specs.Reading.{charOf, isContent, contentOf, readLeaf, head};
+ghost use Rattle.utf8.specs.Scan.{isSecond, Lead, Start, Same, After};
+ghost use Rattle.utf8.specs.Chars.{leadOf, overOf, Form};
+ghost use Rattle.utf8.specs.Contents.{contentIf};
+
+// How many bytes a sequence has that starts with a byte, 0 where none does. A row for each high half of the byte.
+const WIDTHS: [[u8; 16]; 16] = [
+    [1, 1, 1, 1, 1, 1, 1, 1, 1, 1, 1, 1, 1, 1, 1, 1], // 00
+    [1, 1, 1, 1, 1, 1, 1, 1, 1, 1, 1, 1, 1, 1, 1, 1], // 10
+    [1, 1, 1, 1, 1, 1, 1, 1, 1, 1, 1, 1, 1, 1, 1, 1], // 20
+    [1, 1, 1, 1, 1, 1, 1, 1, 1, 1, 1, 1, 1, 1, 1, 1], // 30
+    [1, 1, 1, 1, 1, 1, 1, 1, 1, 1, 1, 1, 1, 1, 1, 1], // 40
+    [1, 1, 1, 1, 1, 1, 1, 1, 1, 1, 1, 1, 1, 1, 1, 1], // 50
+    [1, 1, 1, 1, 1, 1, 1, 1, 1, 1, 1, 1, 1, 1, 1, 1], // 60
+    [1, 1, 1, 1, 1, 1, 1, 1, 1, 1, 1, 1, 1, 1, 1, 1], // 70
+    [0, 0, 0, 0, 0, 0, 0, 0, 0, 0, 0, 0, 0, 0, 0, 0], // 80
+    [0, 0, 0, 0, 0, 0, 0, 0, 0, 0, 0, 0, 0, 0, 0, 0], // 90
+    [0, 0, 0, 0, 0, 0, 0, 0, 0, 0, 0, 0, 0, 0, 0, 0], // A0
+    [0, 0, 0, 0, 0, 0, 0, 0, 0, 0, 0, 0, 0, 0, 0, 0], // B0
+    [0, 0, 2, 2, 2, 2, 2, 2, 2, 2, 2, 2, 2, 2, 2, 2], // C0
+    [2, 2, 2, 2, 2, 2, 2, 2, 2, 2, 2, 2, 2, 2, 2, 2], // D0
+    [3, 3, 3, 3, 3, 3, 3, 3, 3, 3, 3, 3, 3, 3, 3, 3], // E0
+    [4, 4, 4, 4, 4, 0, 0, 0, 0, 0, 0, 0, 0, 0, 0, 0], // F0
+];
+
+fn width(lead: u8) -> u8
+    ensures { λ r. ⌜ r ≡ widthOf lead ⌝ }
+{
+    WIDTHS[(lead / 16) as usize][(lead % 16) as usize]
+}
+
+fn is_in(b: u8, low: u8, high: u8) -> bool
+    ensures { λ r. ⌜ r ≡ both (leb low b) (leb b high) ⌝ }
+{
+    if b < low {
+        return false;
+    }
+    b <= high
+}
+
+// Whether a byte may follow a lead byte: four of them leave only a part of 80 to BF.
+fn is_second(lead: u8, b: u8) -> bool
+    ensures { λ r. ⌜ r ≡ isSecond lead b ⌝ }
+{
+    match lead {
+        0xe0 => is_in(b, 0xa0, 0xbf),
+        0xed => is_in(b, 0x80, 0x9f),
+        0xf0 => is_in(b, 0x90, 0xbf),
+        0xf4 => is_in(b, 0x80, 0x8f),
+        _ => is_in(b, 0x80, 0xbf),
+    }
+}
+
+// Whether the sequence that was looked for is there: the place behind it, or a byte that is out of its range or lacks.
+enum Sequence {
+    Ends { place: usize },
+    Bad,
+}
+
+// The sequence whose lead byte stands at a place. No sequence starts with 80 to C1 or with F5 to FF.
+fn after_lead(s: &[u8], at: usize) -> Sequence
+    requires { ⌜ Lead (now s) at ⌝ }
+    ensures { λ r. ⌜ After (now (s .entry)) at r ⌝ }
+{
+    let lead = s[at];
+    let wide = width(lead) as usize;
+    if wide == 0 {
+        return Sequence::Bad;
+    }
+    if s.len() - at < wide {
+        return Sequence::Bad;
+    }
+    let place = at + wide;
+    let second = is_second(lead, s[at + 1]);
+    if !second {
+        return Sequence::Bad;
+    }
+    if wide == 2 {
+        return Sequence::Ends { place };
+    }
+    let third = is_in(s[at + 2], 0x80, 0xbf);
+    if !third {
+        return Sequence::Bad;
+    }
+    if wide == 3 {
+        return Sequence::Ends { place };
+    }
+    let fourth = is_in(s[at + 3], 0x80, 0xbf);
+    if !fourth {
+        return Sequence::Bad;
+    }
+    Sequence::Ends { place }
+}
+
+// A place behind single bytes only, with no four more of them: four are tested in a turn, for speed.
+fn after_ascii(s: &[u8], from: usize) -> usize
+    requires { ⌜ Start (now s) from ⌝ }
+    ensures { λ r. ⌜ Same (now (s .entry)) from r ⌝ }
+{
+    let mut i = from;
+    while 4 <= s.len() - i {
+        let b0 = s[i];
+        if 0x80 <= b0 {
+            return i;
+        }
+        let b1 = s[i + 1];
+        if 0x80 <= b1 {
+            return i + 1;
+        }
+        let b2 = s[i + 2];
+        if 0x80 <= b2 {
+            return i + 2;
+        }
+        let b3 = s[i + 3];
+        if 0x80 <= b3 {
+            return i + 3;
+        }
+        i = i + 4;
+    }
+    i
+}
+
+// Whether bytes are a text, in one pass.
+pub fn is_text(s: &[u8]) -> bool
+    ensures { λ r. ⌜ r ≡ utf8 (now (s .entry)) ⌝ }
+{
+    let mut i: usize = 0;
+    while i < s.len() {
+        let b = s[i];
+        if b < 0x80 {
+            i = after_ascii(s, i + 1);
+        } else {
+            let got = after_lead(s, i);
+            let Sequence::Ends { place } = got else {
+                return false;
+            };
+            i = place;
+        }
+    }
+    true
+}
+
+// A lead byte's part of the code point.
+fn lead_part(b: u8) -> u64
+    ensures { λ r. ⌜ r ≡ leadOf b ⌝ }
+{
+    let x = b as u64;
+    match b {
+        0..=0x7f => x,
+        0xc2..=0xdf => x - 0xc0,
+        0xe0..=0xef => x - 0xe0,
+        0xf0..=0xf4 => x - 0xf0,
+        _ => 0,
+    }
+}
+
+// A following byte's part.
+fn over(b: u8) -> u64
+    ensures { λ r. ⌜ r ≡ overOf b ⌝ }
+{
+    if b < 0x80 {
+        return 0;
+    }
+    (b - 0x80) as u64
+}
+
+// The code point that a text starts with.
+pub fn first_char(s: &[u8]) -> u64
+    ensures { λ r. ⌜ r ≡ firstChar (now (s .entry)) ⌝ }
+{
+    if s.len() == 0 {
+        return 0;
+    }
+    let wide = width(s[0]) as usize;
+    let mut value = lead_part(s[0]);
+    let mut i: usize = 1;
+    while i < wide {
+        if s.len() <= i {
+            return value;
+        }
+        let x = over(s[i]);
+        value = 64 * value + x;
+        i = i + 1;
+    }
+    value
+}
+
+pub fn is_char(c: u64) -> bool
+    ensures { λ r. ⌜ r ≡ isChar c ⌝ }
+{
+    if c < 0xd800 {
+        return true;
+    }
+    if c < 0xe000 {
+        return false;
+    }
+    c < 0x110000
+}
+
+// The bytes of a code point, with zeros behind them; none where it is no char.
+pub struct CharBytes {
+    pub bytes: [u8; 4],
+    pub len: usize,
+}
+
+fn form(c: u64) -> CharBytes
+    requires { ⌜ isChar c ≡ true ⌝ }
+    ensures { λ r. ⌜ Form c (r .bytes) (r .len) ⌝ }
+{
+    if c < 0x80 {
+        return CharBytes {
+            bytes: [c as u8, 0, 0, 0],
+            len: 1,
+        };
+    }
+    if c < 0x800 {
+        return CharBytes {
+            bytes: [(0xc0 + c / 64) as u8, (0x80 + c % 64) as u8, 0, 0],
+            len: 2,
+        };
+    }
+    if c < 0x10000 {
+        return CharBytes {
+            bytes: [
+                (0xe0 + c / 4096) as u8,
+                (0x80 + c / 64 % 64) as u8,
+                (0x80 + c % 64) as u8,
+                0,
+            ],
+            len: 3,
+        };
+    }
+    CharBytes {
+        bytes: [
+            (0xf0 + c / 262144) as u8,
+            (0x80 + c / 4096 % 64) as u8,
+            (0x80 + c / 64 % 64) as u8,
+            (0x80 + c % 64) as u8,
+        ],
+        len: 4,
+    }
+}
+
+pub fn char_bytes(c: u64) -> CharBytes
+    ensures { λ r. ⌜ Form c (r .bytes) (r .len) ⌝ }
+{
+    let is = is_char(c);
+    if is {
+        return form(c);
+    }
+    CharBytes {
+        bytes: [0, 0, 0, 0],
+        len: 0,
+    }
+}
+
+// A char of `count` bytes, behind a count that took `used`.
+fn char_of(part: &[u8], count: u64, used: usize) -> Item
+    requires { ⌜ used + length (now part) < 2 ^ 64 ⌝ }
+    ensures { λ r. ⌜ r ≡ charOf count used (now (part .entry)) ⌝ }
+{
+    if 4 < count {
+        return Item::Refused { why: Refusal::Char };
+    }
+    let n = count as usize;
+    if part.len() < n {
+        return Item::Refused { why: Refusal::End };
+    }
+    let bytes = &part[..n];
+    let ok = is_text(bytes);
+    if !ok {
+        return Item::Refused { why: Refusal::Char };
+    }
+    if n == 0 {
+        return Item::Refused { why: Refusal::Char };
+    }
+    let first = first_char(bytes);
+    let end = used + n;
+    Item::Took {
+        first,
+        second: 0,
+        used: end,
+    }
+}
+
+// The char at the start of `part`.
+pub fn take_char(part: &[u8]) -> Item
+    ensures { λ r. ⌜ r ≡ readLeaf char (now (part .entry)) ⌝ }
+{
+    let got = varint::take(part, varint::U64::MOST, varint::U64::LAST);
+    let Item::Took {
+        first,
+        second: _,
+        used,
+    } = got
+    else {
+        return got;
+    };
+    char_of(&part[used..], first, used)
+}
+
+// Whether bytes may stand where a text is wanted, or any bytes are.
+pub fn is_content(part: &[u8], text: bool) -> bool
+    ensures { λ r. ⌜ r ≡ isContent (contentIf text) (now (part .entry)) ⌝ }
+{
+    if text {
+        return is_text(part);
+    }
+    true
+}
+
+// A text or bytes of `count` bytes, behind a count that took `used`, with which the offset begins.
+fn content_of(part: &[u8], count: u64, used: usize, text: bool) -> Item
+    requires { ⌜ used + length (now part) < 2 ^ 64 ⌝ }
+    ensures { λ r. ⌜ r ≡ contentOf (contentIf text) 0 count used (now (part .entry)) ⌝ }
+{
+    if (part.len() as u64) < count {
+        return Item::Refused { why: Refusal::End };
+    }
+    let n = count as usize;
+    let ok = is_content(&part[..n], text);
+    if !ok {
+        return Item::Refused { why: Refusal::Utf8 };
+    }
+    let end = used + n;
+    Item::Took {
+        first: used as u64,
+        second: count,
+        used: end,
+    }
+}
+
+// The text, or the bytes, at the start of `part`, from which the offset is counted.
+pub fn take_content(part: &[u8], text: bool) -> Item
+    ensures { λ r. ⌜ r ≡ head (pooled (contentIf text)) 0 0 (now (part .entry)) ⌝ }
+{
+    let got = varint::take(part, varint::U64::MOST, varint::U64::LAST);
+    let Item::Took {
+        first,
+        second: _,
+        used,
+    } = got
+    else {
+        return got;
+    };
+    content_of(&part[used..], first, used, text)
+}

@@ -1,19 +1,19 @@
 -- Adding the weight of a bit that is not set changes no other bit of a byte, and so none of the area.
 -- Assumes nothing.
-use mathlib.Core.Path.{_≡_, refl, ap, _∙_, sym}
+use mathlib.Core.Path.{_≡_, ap, _∙_, sym}
 use mathlib.Core.Bool.{true, false}
 use mathlib.Core.List.{List}
 use mathlib.Core.Logic.{_⊎_, inl, inr}
-use Prim.Native.Nat.{ℕ, zero, suc, _+_, _-_, _*_, _/_, _%_, _^_, _<_, _≤_}
+use Prim.Native.Nat.{ℕ, zero, suc, _+_, _-_, _*_, _/_, _%_, _^_, _<_}
 use native.Mathlib.Nat.{one-mul, zero-div, add-mul-div-left, add-div-right}
 use native.Mathlib.Omega.{arith}
 use lib.Dec.{eqb}
 use lib.Pow.{pow-pos, pow-add, shl-exact, shr-shr}
 use lib.ListN.{length, getD, set, replicate, getD-replicate}
 use lib.Seq.{getD-set-same, getD-set-other}
-use borrow.Author.Tests.{eqb-false, eq-eqb}
+use borrow.Author.Tests.{eqb-false}
 use Rattle.wire.specs.Tests.{pick}
-use Rattle.laws.proofs.Splits.{by-lt, by-eq, by-test, not-both, of-pick}
+use Rattle.laws.proofs.Splits.{by-lt, by-eq, not-both, of-pick}
 use Rattle.append.specs.Area.{marked, marking}
 
 -- ---- a byte's bits

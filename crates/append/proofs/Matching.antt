@@ -7,12 +7,11 @@ use mathlib.Core.Logic.{⊎-elim}
 use Prim.Native.Nat.{ℕ, zero, suc, _+_, _-_, _*_, _/_, _<_, _≤_}
 use native.Mathlib.Nat.{le-of-suc-le-suc, not-suc-le-zero}
 use native.Mathlib.Omega.{arith}
-use lib.Dec.{leb, eqb}
 use lib.ListN.{length, replicate, length-replicate}
 use borrow.Author.Tests.{ne-eqb, eq-eqb, leb-true, leb-false, eqb-true, eqb-false}
 use Rattle.wire.specs.declared.Layout.{Layout}
 use Rattle.wire.specs.Tests.{pick, both}
-use Rattle.wire.specs.Shape.{Shape, none, more}
+use Rattle.wire.specs.Shape.{Shape}
 use Rattle.wire.specs.Table.{u16At, kindOf, nodeAt, recordOf, shapesAt, shapeOf}
 use Rattle.wire.specs.Append.{isOpen, isOpenRoot, matches, firsts, appends}
 use Rattle.laws.specs.Tables.{nodeFirst, nodeCount, nodeShape, GoodTable}
@@ -20,25 +19,21 @@ use Rattle.laws.proofs.Splits.{by-test, not-both}
 use Rattle.laws.proofs.Children.{shapes-none, shapes-more, matches-nodes, appends-nodes, firsts-counts}
 use Rattle.table.specs.Parts.{Falls}
 use Rattle.table.proofs.Stretches.{falls-next, node-falls}
-use Rattle.append.specs.Area.{width, area, marked, marking, Sound}
-use Rattle.append.specs.Compare.{alike, Asked, Told}
+use Rattle.append.specs.Area.{width, area, marking, Sound}
+use Rattle.append.specs.Compare.{suits, alike, Asked, Told}
 use Rattle.append.proofs.Bits.{marking-only, none-marked}
 
 -- ---- counts of children
 
--- so many old children go with so many new ones
-abbrev pub Fit : Bool → ℕ → ℕ → Bool
-Fit free n k = pick free (leb n k) (eqb n k)
-
-fit-counts : (free : Bool) (n k : ℕ) → Fit free n k ≡ true → (n ≤ k) × (free ≡ false → n ≡ k)
+suited : (free : Bool) (n k : ℕ) → suits free n k ≡ true → (n ≤ k) × (free ≡ false → n ≡ k)
 unfolding pick
-fit-counts true n k e = (leb-true n k e, λ f. not-both refl f)
-fit-counts false n k e = let same = eqb-true n k e in (omega arith, λ f. same)
+suited true n k e = (leb-true n k e, λ f. not-both refl f)
+suited false n k e = let same = eqb-true n k e in (omega arith, λ f. same)
 
-counts-fit : {X : Type 0} (free : Bool) (n k : ℕ) → n ≤ k → (free ≡ false → n ≡ k) → Fit free n k ≡ false → X
+unsuited : {X : Type 0} (free : Bool) (n k : ℕ) → n ≤ k → (free ≡ false → n ≡ k) → suits free n k ≡ false → X
 unfolding pick
-counts-fit true n k h same e = absurd (omega (arith, leb-false n k e))
-counts-fit false n k h same e = absurd (eqb-false n k e (same refl))
+unsuited true n k h same e = absurd (omega (arith, leb-false n k e))
+unsuited false n k h same e = absurd (eqb-false n k e (same refl))
 
 module _ (f g : ℕ → Shape) (s t : List ℕ) where
   -- so many old children, and as many first ones of the new
@@ -99,17 +94,17 @@ module _ {s t : List ℕ} {l m : Layout} {i j x y : ℕ} {a : List ℕ} (asked :
     unfolding alike both
     step = rw (eq-eqb (Number s l i) (Number t m j) (sym old ∙ same ∙ new), olds, news)
 
-    pub alike-unfit : Fit free n k ≡ false → false ≡ alike free s l i t m j
-    alike-unfit e =
+    pub alike-unsuited : suits free n k ≡ false → false ≡ alike free s l i t m j
+    alike-unsuited e =
         by-test (alike free s l i t m j)
-        (λ w. let c = firsts-counts free _ _ s t _ _ n k (sym step ∙ w) in counts-fit free n k (c .0) (c .1) e)
+        (λ w. let c = firsts-counts free _ _ s t _ _ n k (sym step ∙ w) in unsuited free n k (c .0) (c .1) e)
         (λ w. sym w)
 
     -- the children are compared from the first on
-    pub left-start : {from at : ℕ} → Fit free n k ≡ true
+    pub left-start : {from at : ℕ} → suits free n k ≡ true
         → from ≡ nodeFirst l i (nodeAt s (recordOf l i)) → at ≡ nodeFirst m j (nodeAt t (recordOf m j)) → Left s l i t m j free a n from at
-    left-start fit f g =
-        let c = fit-counts free n k fit in
+    left-start fits f g =
+        let c = suited free n k fits in
         let fewer = c .0 in
         record {
           same = rw (f, g) (pairs-free _ _ s t free _ _ n k (c .0) (c .1) ∙ sym step);

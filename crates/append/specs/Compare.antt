@@ -4,17 +4,21 @@ use mathlib.Core.Path.{_≡_}
 use mathlib.Core.Bool.{Bool}
 use mathlib.Core.List.{List}
 use Prim.Native.Nat.{ℕ, _≤_, _<_}
-use lib.Dec.{eqb}
+use lib.Dec.{leb, eqb}
 use lib.ListN.{length}
 use Rattle.wire.specs.declared.Layout.{Layout}
 use Rattle.wire.specs.declared.Checked.the-variants.{Good}
 use Rattle.wire.specs.declared.AskAnswer.{AskAnswer}
-use Rattle.wire.specs.Tests.{both}
+use Rattle.wire.specs.Tests.{pick, both}
 use Rattle.wire.specs.Table.{nodeAt, recordOf, check}
 use Rattle.wire.specs.Append.{firsts}
 use Rattle.wire.specs.Answers.{askBy}
 use Rattle.laws.specs.Tables.{nodeShapes, GoodTable}
 use Rattle.append.specs.Area.{area, Sound}
+
+-- so many old children go with so many new ones: as many, or at least as many where more may follow
+abbrev pub suits : (free : Bool) → ℕ → ℕ → Bool
+suits free n k = pick free (leb n k) (eqb n k)
 
 -- the old node i and the new node j have the same kind's number, and their children match
 unfoldable pub alike : (free : Bool) → List ℕ → Layout → ℕ → List ℕ → Layout → ℕ → Bool

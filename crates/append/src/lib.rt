@@ -7,14 +7,12 @@ ghost use mathlib.Core.Path.{_≡_};
 ghost use mathlib.Core.Bool.{true};
 ghost use Prim.Native.Nat.{_/_, _<_};
 ghost use lib.ListN.{length};
-ghost use lib.Dec.{leb, eqb};
-ghost use Rattle.wire.specs.Tests.{pick};
-ghost use Rattle.wire.specs.Table.{isKind, kindOf, shapeOf, check as checkOf};
+ghost use Rattle.wire.specs.Table.{isKind, kindOf, shapeOf};
 ghost use Rattle.wire.specs.Append.{isOpen, isOpenRoot, matches, appends as appendsOf};
 ghost use Rattle.wire.specs.Answers.{asks};
 ghost use Rattle.laws.specs.Tables.{nodeShape, GoodTable};
 ghost use Rattle.append.specs.Area.{marked, marking};
-ghost use Rattle.append.specs.Compare.{alike, after, Asked, Told};
+ghost use Rattle.append.specs.Compare.{suits, alike, after, Asked, Told};
 
 // The work area has a bit for each pair of an old node and a new one: so many to an old node, in so many bytes.
 const WIDTH: usize = 256;
@@ -66,7 +64,7 @@ fn is_open_root(number: u8) -> bool
 
 // Whether so many old children go with so many new ones.
 fn fits(free: bool, old: usize, new: usize) -> bool
-    ensures { λ r. ⌜ r ≡ pick free (leb old new) (eqb old new) ⌝ }
+    ensures { λ r. ⌜ r ≡ suits free old new ⌝ }
 {
     if free {
         return old <= new;

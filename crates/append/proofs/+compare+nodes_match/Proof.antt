@@ -1,11 +1,10 @@
 -- `append::nodes_match` and `append::compare` meet their contracts: the old node's number falls at each call, and the loop's invariant is that the children left decide.
 -- Assumes nothing.
-use mathlib.Core.Path.{_≡_, refl, sym, ap, _∙_}
-use mathlib.Core.Bool.{true, false}
+use mathlib.Core.Path.{_≡_, refl, sym, _∙_}
 use lib.ListN.{length}
 use borrow.Author.Tests.{not-true, not-false}
 use Rattle.table.proofs.Stretches.{falls-first}
-use Rattle.append.proofs.Matching.{pairs-none, Left, alike-other, alike-unfit, left-start, left-no, left-next, matches-alike, sound-marking}
+use Rattle.append.proofs.Matching.{pairs-none, Left, alike-other, alike-unsuited, left-start, left-no, left-next, matches-alike, sound-marking}
 use native.Mathlib.Omega.{arith}
 use borrow.Author.Needs.{needs}
 use Prim.Native.Nat.{ℕ, _+_, _<_}
@@ -84,7 +83,7 @@ compare-fits-requires t c κs = search needs
 compare-returns-2 : (t : ℕ) → compare-lts.Need-returns-2 (compare-calls t) (compare-at t) compare.Post compare-Inv-loop compare-μ-loop
 compare-returns-2 t c = record {
   answer =
-      alike-unfit (c .before .before .before .before .before .before .before .before .before .before .pre .1) _ (c .before .before .before .before .before .before .kind-at .ensures) (c .before .before .before .before .before .kind-at2 .ensures) (c .before .before .before .before .if1 .left) (c .before .before .before .child-count .ensures) (c .before .before .child-count2 .ensures)
+      alike-unsuited (c .before .before .before .before .before .before .before .before .before .before .pre .1) _ (c .before .before .before .before .before .before .kind-at .ensures) (c .before .before .before .before .before .kind-at2 .ensures) (c .before .before .before .before .if1 .left) (c .before .before .before .child-count .ensures) (c .before .before .child-count2 .ensures)
       (sym (c .before .fits2 .ensures) ∙ not-true _ (c .if2 .taken));
   sound = c .before .before .before .before .before .before .before .before .before .before .pre .1 .sound;
 }

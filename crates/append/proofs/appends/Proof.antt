@@ -3,7 +3,6 @@
 use mathlib.Core.Path.{sym, _∙_}
 use Rattle.wire.specs.Answers.{askBy, asks}
 use Rattle.laws.proofs.Tables.{good-table}
-use native.Mathlib.Omega.{arith}
 use borrow.Author.Needs.{needs}
 use Rattle.append.proofs.appends.Statement.{statement}
 use Rattle.append.proofs.appends.Tie as tie

@@ -1,7 +1,6 @@
 -- `append::is_marked` meets its contract: the bit is what the definition reads.
 -- Assumes nothing.
 use Rattle.append.specs.Area.{marked}
-use native.Mathlib.Omega.{arith}
 use borrow.Author.Needs.{needs}
 use Rattle.append.proofs.is_marked.Statement.{statement}
 use Rattle.append.proofs.is_marked.Tie as tie

@@ -2,7 +2,6 @@
 -- Assumes nothing.
 use mathlib.Core.Path.{_∙_}
 use Rattle.append.proofs.Matching.{roots-asked, appends-alike}
-use native.Mathlib.Omega.{arith}
 use borrow.Author.Needs.{needs}
 use Rattle.append.proofs.roots_append.Statement.{statement}
 use Rattle.append.proofs.roots_append.Tie as tie

@@ -11,7 +11,7 @@ use borrow.Author.Tests.{lt-ltb, le-ltb, le-leb, lt-leb}
 use Rattle.wire.specs.declared.Refusal.the-variants.{End, Record}
 use Rattle.wire.specs.declared.Item.{Item}
 use Rattle.wire.specs.declared.Item.the-variants.{Took, Refused}
-use Rattle.wire.specs.declared.TakeAnswer.the-variants.{Done, Refused as NotTaken}
+use Rattle.wire.specs.declared.TakeAnswer.the-variants.{Refused as NotTaken}
 use Rattle.wire.specs.Tests.{pick, both}
 use Rattle.wire.specs.Table.{kinds, isKind, kindOf}
 use Rattle.wire.specs.Reading.{head}

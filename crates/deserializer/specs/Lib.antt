@@ -1,2 +1,3 @@
 -- What is stated of the calls.
+pub mod Records
 pub mod Unique

@@ -7,6 +7,7 @@ use wire::TakeAnswer;
 ghost use mathlib.Core.Path.{_≡_};
 ghost use lib.ListN.{drop};
 ghost use Rattle.wire.specs.Answers.{mayTake, takes, placeAfter};
+ghost use Rattle.deserializer.specs.Records.{fresh, takesNext, moved, restFrom};
 
 // Whether an item of the kind can be taken by itself.
 fn may_take(kind: u64) -> bool
@@ -73,4 +74,33 @@ pub fn rest_at(message: &[u8], place: usize) -> &[u8]
     } else {
         &message[end..]
     }
+}
+
+// A message and the place of its next item.
+pub struct Deserializer<'a> {
+    pub message: &'a [u8],
+    pub place: usize,
+}
+
+pub fn new<'a>(message: &'a [u8]) -> Deserializer<'a>
+    ensures { λ r. ⌜ r ≡ fresh (message .entry) ⌝ }
+{
+    Deserializer { message, place: 0 }
+}
+
+// The item of a kind at the reader's place, which goes behind it; a refusal keeps the place.
+pub fn take<'s, 'a>(reader: &'s mut Deserializer<'a>, kind: u64) -> TakeAnswer
+    ensures { λ r. ⌜ (r ≡ takesNext kind (now (reader .entry))) × (now (reader .exit) ≡ moved (now (reader .entry)) r) ⌝ }
+{
+    let place = reader.place;
+    let answer = take_at(kind, reader.message, place);
+    reader.place = place_after(place, answer);
+    answer
+}
+
+// The bytes from the reader's place on.
+pub fn rest<'a>(reader: Deserializer<'a>) -> &'a [u8]
+    ensures { λ r. ⌜ now r ≡ restFrom (reader .entry) ⌝ }
+{
+    rest_at(reader.message, reader.place)
 }

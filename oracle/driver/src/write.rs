@@ -188,6 +188,12 @@ pub fn write_good(table: &Table, entries: &[Entry], pool: &[u8], out_len: usize)
     }
 }
 
+/// Writes a list that fits, and nothing else: the crate's serializer under the table-driven `Serialize`.
+pub fn to_slice(table: &Table, entries: &[Entry], pool: &[u8], out: &mut [u8]) -> usize {
+    let list = List { table, entries, pool, at: Cell::new(0) };
+    postcard::to_slice(&Value { list: &list, node: table.root }, out).expect("room enough").len()
+}
+
 /// The writer's public call.
 pub fn write(file: &[u8], words: &[u64], pool: &[u8], out_len: usize) -> Result<Vec<u8>, Refusal> {
     let table = Table::parse(file)?;

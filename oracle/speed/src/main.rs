@@ -1,9 +1,28 @@
 //! Times the proved library beside the crate postcard 1.1.3: same machine, same input, same driver,
-//! both built for release with checks off. Each figure is the best of many runs.
+//! both built for release with checks off. Each figure is the best of many runs, stores and outputs warm.
+//!
+//!   speed leaves     varints and texts
+//!   speed messages   reading and writing
+//!   speed question   the append question's worst pairs
+//!   speed frames     the accumulator
 
+mod frames;
 mod leaves;
+mod messages;
+mod question;
 mod timing;
 
 fn main() {
-    leaves::report();
+    let wanted = std::env::args().nth(1);
+    for (name, report) in [
+        ("leaves", leaves::report as fn()),
+        ("messages", messages::report),
+        ("question", question::report),
+        ("frames", frames::report),
+    ] {
+        if wanted.as_deref().is_none_or(|w| w == name) {
+            report();
+            println!();
+        }
+    }
 }

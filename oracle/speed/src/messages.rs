@@ -1,0 +1,111 @@
+//! Whole messages: ours with its table check each time; the crate under a visitor or a `Serialize` that
+//! follows a table parsed beforehand; and the crate with types compiled in.
+use crate::timing::best;
+use oracle_driver::table::{Node, Table, SEQ, STR, STRUCT, U32};
+use oracle_driver::{read, write, Entry};
+use serde::de::DeserializeOwned;
+use serde::{Deserialize, Serialize};
+use std::hint::black_box;
+
+#[derive(Serialize, Deserialize, Clone, Copy)]
+struct Stock {
+    store: u32,
+    product: u64,
+    count: i32,
+}
+
+fn stock(i: u64) -> Stock {
+    Stock { store: 300 + i as u32, product: 5 + i * 1_000_003, count: -2 - i as i32 }
+}
+
+/// A message and what it takes to read and write it: the table, as a file and parsed, its entries, and the
+/// crate's own reading and writing of it with types compiled in.
+struct Sample<'a> {
+    name: &'a str,
+    table: Table,
+    message: Vec<u8>,
+    typed_read: &'a dyn Fn(&[u8]),
+    typed_write: &'a dyn Fn(&mut [u8]) -> usize,
+}
+
+fn ratio_row(name: &str, ours: f64, driven: f64, typed: f64) {
+    println!("| {name} | {ours:.0} | {driven:.0} | {typed:.0} | {:.2} | {:.2} |", ours / driven, ours / typed);
+}
+
+impl Sample<'_> {
+    fn entries(&self) -> Vec<Entry> {
+        let got = read::read_good(&self.table, &self.message, usize::MAX, Vec::new());
+        assert_eq!(got.no, 0, "{}", self.name);
+        got.entries
+    }
+
+    fn reading(&self) {
+        let (file, entries) = (self.table.file(), self.entries());
+        let mut store = vec![0u64; 2 * entries.len()];
+        let read = reystavem::read(&file, &self.message, &mut store).expect("a good message");
+        assert_eq!((read.count, &store[..]), (entries.len(), entries.as_flattened()), "{}", self.name);
+        let ours = best(|| reystavem::read(black_box(&file), black_box(&self.message), &mut store).is_ok());
+        let mut kept = Vec::with_capacity(entries.len());
+        let driven = best(|| {
+            kept.clear();
+            let got = read::read_good(&self.table, black_box(&self.message), entries.len(), std::mem::take(&mut kept));
+            kept = got.entries;
+        });
+        let typed = best(|| (self.typed_read)(black_box(&self.message)));
+        ratio_row(self.name, ours, driven, typed);
+    }
+
+    fn writing(&self) {
+        let (file, entries, pool) = (self.table.file(), self.entries(), &self.message);
+        let words = entries.as_flattened();
+        let mut out = vec![0u8; self.message.len()];
+        assert_eq!(reystavem::write(&file, words, pool, &mut out), Ok(out.len()), "{}", self.name);
+        assert_eq!(out, self.message, "{}", self.name);
+        let ours = best(|| reystavem::write(black_box(&file), black_box(words), pool, &mut out).is_ok());
+        let driven = best(|| write::to_slice(&self.table, black_box(&entries), pool, &mut out));
+        let typed = best(|| (self.typed_write)(&mut out));
+        ratio_row(self.name, ours, driven, typed);
+    }
+}
+
+fn written<T: Serialize + ?Sized>(value: &T) -> Vec<u8> {
+    let mut out = vec![0; 1 << 17];
+    let len = postcard::to_slice(value, &mut out).expect("room enough").len();
+    out.truncate(len);
+    out
+}
+
+fn read_as<T: DeserializeOwned>(message: &[u8]) {
+    black_box(postcard::from_bytes::<T>(message).is_ok());
+}
+
+pub fn report() {
+    let one = stock(0);
+    let many: Vec<Stock> = (0..1000).map(stock).collect();
+    let wide: [[u32; 25]; 8] = std::array::from_fn(|i| std::array::from_fn(|j| (i * 1000 + j * 37) as u32));
+    let ascii: String = (0..65536).map(|i| (b'a' + (i % 26) as u8) as char).collect();
+    let mixed: String = "Milk 3.5% — lait entier, γάλα, 牛乳 🥛; ".repeat(1300);
+
+    let table_t = Table::parse(reystavem::samples::TABLE_T).expect("a good table");
+    let mut sequence = Table::parse(reystavem::samples::TABLE_T).expect("a good table");
+    sequence.nodes.push(Node { kind: SEQ, kids: vec![3] });
+    sequence.root = 4;
+    let fields = Table { nodes: vec![Node { kind: U32, kids: vec![] }, Node { kind: STRUCT, kids: vec![0; 200] }], root: 1 };
+
+    let samples = [
+        Sample { name: "one T", table: table_t, message: written(&one), typed_read: &read_as::<Stock>, typed_write: &|out| postcard::to_slice(black_box(&one), out).unwrap().len() },
+        Sample { name: "1,000 T", table: sequence, message: written(&many[..]), typed_read: &read_as::<Vec<Stock>>, typed_write: &|out| postcard::to_slice(black_box(&many[..]), out).unwrap().len() },
+        Sample { name: "200 fields", table: fields, message: written(&wide), typed_read: &read_as::<[[u32; 25]; 8]>, typed_write: &|out| postcard::to_slice(black_box(&wide), out).unwrap().len() },
+        Sample { name: "text, 64 KiB ASCII", table: Table::leaf(STR), message: written(&ascii[..]), typed_read: &read_as_text, typed_write: &|out| postcard::to_slice(black_box(&ascii[..]), out).unwrap().len() },
+        Sample { name: "text, 64 KiB mixed", table: Table::leaf(STR), message: written(&mixed[..]), typed_read: &read_as_text, typed_write: &|out| postcard::to_slice(black_box(&mixed[..]), out).unwrap().len() },
+    ];
+    let head = "ours, ns | the crate by a table, ns | the crate with types, ns | ours / by a table | ours / with types |";
+    println!("| Reading | {head}\n|---|---|---|---|---|---|");
+    samples.iter().for_each(Sample::reading);
+    println!("\n| Writing | {head}\n|---|---|---|---|---|---|");
+    samples.iter().for_each(Sample::writing);
+}
+
+fn read_as_text(message: &[u8]) {
+    black_box(postcard::from_bytes::<&str>(message).is_ok());
+}

@@ -1,0 +1,9 @@
+-- The proofs of what specs/ states, and the laws that the functions cite.
+pub mod Counting
+pub mod Entries
+pub mod Going
+pub mod Sixths
+pub mod Judging
+pub mod Spelling
+pub mod Nodes
+pub mod Promised

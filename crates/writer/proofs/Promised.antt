@@ -1,0 +1,124 @@
+-- A list that was judged is refused, or is written: the count is exact where it is compared with the output, and nothing else was changed.
+-- Assumes nothing.
+use mathlib.Core.Path.{_≡_, refl, sym, ap, _∙_}
+use mathlib.Core.Bool.{true}
+use mathlib.Core.List.{List, [], _++_, append-nil}
+use Prim.Native.Nat.{ℕ, _/_, _%_, _^_, _<_, _≤_}
+use native.Mathlib.Omega.{arith}
+use native.Mathlib.Nat.{zero-add}
+use lib.ListN.{length, drop}
+use lib.Dec.{leb}
+use lib.Seq.{sets, sets-eq}
+use borrow.Author.Tests.{le-leb, lt-leb, eq-eqb, ne-eqb}
+use Rattle.wire.specs.declared.Refusal.{Refusal}
+use Rattle.wire.specs.declared.Refusal.the-variants.{Values, Full}
+use Rattle.wire.specs.declared.Layout.{Layout}
+use Rattle.wire.specs.declared.Checked.the-variants.{Good, Bad}
+use Rattle.wire.specs.declared.WriteAnswer.{WriteAnswer}
+use Rattle.wire.specs.declared.WriteAnswer.the-variants.{Done, Refused}
+use Rattle.wire.specs.Tests.{pick, given}
+use Rattle.wire.specs.Table.{check, shapeOf}
+use Rattle.wire.specs.Writing.{Wrote, wrote, misfit, after, write}
+use Rattle.wire.specs.Answers.{wordsPer, Form, form, noForm, formOf, formed, writeBy, writes, writeAnswer, outWith}
+use Rattle.writer.specs.declared.Put.{Put}
+use Rattle.writer.specs.declared.Put.the-variants as put
+use Rattle.writer.specs.Bytes.{cap, Puts}
+use Rattle.writer.specs.Steps.{entries, Sure, Going, GivesBy, Gives}
+use Rattle.writer.specs.Promise.{Judged, Writes, OneWriting}
+use Rattle.writer.proofs.Counting.{cap-above, cap-within}
+use Rattle.writer.proofs.Entries.{entries-none, entries-more}
+
+writes-no : {f : Form} {e : Refusal} {p : ℕ} (out : List ℕ) → f ≡ noForm e p → Writes f out (Refused e p) out
+unfolding writeAnswer outWith
+writes-no out q = rw q (record { answered = refl; stored = refl })
+
+-- ---- how a list ends
+
+-- bytes that were put, and the entries from `at` on that are left
+record AllPut (w : Wrote) (ws : List ℕ) (u : ℕ) (before : List ℕ) (at n : ℕ) (out : List ℕ) : Type 0 where
+  bytes : List ℕ
+  is : w ≡ wrote bytes (entries ws at)
+  puts : Puts bytes u before n out
+
+module _ {w : Wrote} {ws : List ℕ} {u : ℕ} {before : List ℕ} {r : Put} {out : List ℕ} (g : Gives w ws u before r out) where
+  all-put : {at n : ℕ} → r ≡ put.Done at n → AllPut w ws u before at n out
+  unfolding after
+  all-put {at} {n} q =
+      let d : Going w (wrote [] (entries ws at)) u before n out = rw q at (g .holds) in
+      record { bytes = d .bytes; is = rw append-nil at (d .is); puts = d .puts }
+
+  not-put : {i : ℕ} → r ≡ put.Misfit i → w ≡ misfit i
+  not-put q = rw q at (g .holds)
+
+module _ {w : Wrote} {ws : List ℕ} {r : Put} (out : List ℕ) (j : Judged w ws r) where
+  pub judged-misfit : {i : ℕ} → r ≡ put.Misfit i → Writes (formed (length out) w) out (Refused Values i) out
+  unfolding formed
+  judged-misfit q = writes-no out (ap (formed (length out)) (not-put (j .gives) q))
+
+  module _ {at n : ℕ} (q : r ≡ put.Done at n) where
+    did : AllPut w ws 0 (j .before) at n (j .after)
+    did = all-put (j .gives) q
+
+    pub judged-sure : Sure true w
+    judged-sure = record { never = λ t i e. let z : wrote (did .bytes) (entries ws at) ≡ misfit i = sym (did .is) ∙ e in let o : _≡_ {A = ℕ} 0 1 = cc in omega arith }
+
+    pub judged-more : at < length ws / wordsPer → Writes (formed (length out) w) out (Refused Values at) out
+    unfolding formed formOf
+    judged-more m = writes-no out (ap (formed (length out)) (did .is ∙ ap (wrote (did .bytes)) (entries-more ws at m)))
+
+    module _ (small : length out < 2 ^ 63) (all : length ws / wordsPer ≤ at) where
+      is-form : formed (length out) w ≡ pick (leb (length (did .bytes)) (length out)) (form (did .bytes)) (noForm Full 0)
+      unfolding formed formOf
+      is-form = ap (formed (length out)) (did .is ∙ ap (wrote (did .bytes)) (entries-none ws at all))
+
+      count : n ≡ cap (length (did .bytes))
+      count = did .puts .counted ∙ ap cap (zero-add (length (did .bytes)))
+
+      pub judged-full : length out < n → Writes (formed (length out) w) out (Refused Full 0) out
+      unfolding pick
+      judged-full m =
+          writes-no out
+          (is-form ∙ (rw (lt-leb (length (did .bytes)) (length out) (cap-above (length (did .bytes)) (length out) small (rw (← count) m)))))
+
+      module _ (m : n ≤ length out) where
+        exact : n ≡ length (did .bytes)
+        exact = count ∙ cap-within (length (did .bytes)) (length out) small (rw (← count) m)
+
+        put-whole : (p : Put) (left : List ℕ) → GivesBy w ws 0 out p left → left ≡ sets out 0 (did .bytes)
+        put-whole (put.Done i k) left d =
+            let g : AllPut w ws 0 out i k left = all-put (record { holds = d }) refl in
+            let same : wrote (g .bytes) (entries ws i) ≡ wrote (did .bytes) (entries ws at) = sym (g .is) ∙ did .is in
+            let b : g .bytes ≡ did .bytes = cc in
+            g .puts .stored ∙ ap (sets out 0) b
+        put-whole (put.Misfit i) left d = absurd (judged-sure .never refl i d)
+
+        pub judged-done : {p : Put} {left : List ℕ} → Gives w ws 0 out p left → Writes (formed (length out) w) out (Done n) left
+        unfolding pick writeAnswer outWith
+        judged-done {p} {left} g =
+            rw (is-form, le-leb (length (did .bytes)) (length out) (omega (arith, exact)))
+            (record {
+              answered = ap Done exact;
+              stored =
+                  put-whole p left (g .holds) ∙ sets-eq (did .bytes) out 0 (omega (arith, exact))
+                  ∙ ap (λ k. did .bytes ++ drop k out) (zero-add (length (did .bytes)));
+            })
+
+-- ---- with the table's check
+
+module _ (table ws pool out : List ℕ) where
+  pub writes-bad : {e : Refusal} {p : ℕ} → check table ≡ Bad e p → Writes (writes table ws pool (length out)) out (Refused e p) out
+  unfolding writes writeBy
+  writes-bad h = writes-no out (rw h)
+
+  pub writes-odd : {l : Layout} → check table ≡ Good l → (length ws % wordsPer ≡ 0 → ⊥) → Writes (writes table ws pool (length out)) out (Refused Values (length ws / wordsPer)) out
+  unfolding writes writeBy given
+  writes-odd h odd = writes-no out (rw (h, ne-eqb (length ws % wordsPer) 0 odd))
+
+  pub writes-even : {l : Layout} {a : WriteAnswer} {left : List ℕ} → check table ≡ Good l → length ws % wordsPer ≡ 0
+      → Writes (formed (length out) (write (shapeOf table l) pool (entries ws 0))) out a left → Writes (writes table ws pool (length out)) out a left
+  unfolding writes writeBy given entries
+  writes-even h even w = rw (h, eq-eqb (length ws % wordsPer) 0 even) w
+
+pub one-writing : OneWriting
+one-writing table ws pool out x y f g =
+    ap (λ (a : WriteAnswer). (a, x .1)) (f .answered ∙ sym (g .answered)) ∙ ap (λ (s : List ℕ). (y .0, s)) (f .stored ∙ sym (g .stored))

@@ -1,0 +1,25 @@
+-- `writer::put_list` meets its contract: the root's node, once, is the whole shape.
+-- Assumes nothing.
+use native.Mathlib.Omega.{arith}
+use borrow.Author.Needs.{needs}
+use Rattle.laws.proofs.Tables.{good-table}
+use Rattle.table.proofs.Stretches.{root-falls}
+use Rattle.writer.proofs.Nodes.{root-once}
+use Rattle.writer.proofs.put_list.Statement.{statement}
+use Rattle.writer.proofs.put_list.Tie as tie
+
+root-at-requires : tie.Need-root-at-requires
+root-at-requires c κs = let s = c .before .before .before .before in omega (arith, good-table _ _ (s .pre .0) .children-end)
+
+put-rounds-requires : tie.Need-put-rounds-requires
+put-rounds-requires c κs = let s = c .before .before .before .before .before .before in
+    (good-table _ _ (s .pre .0), (omega arith, (root-falls _ (s .pre .0) _ (c .before .root-at .ensures), rw (root-once _ (s .pre .0) _ (c .before .root-at .ensures) _ _) (s .pre .1))))
+
+same-length : tie.Need-same-length
+same-length c = search needs
+
+returns : tie.Need-returns
+returns c = let s = c .before .before .before .before .before .before .before .before .before in rw (← (root-once _ (s .pre .0) _ (c .before .before .before .before .root-at .ensures) _ _)) (c .before .before .put-rounds .ensures)
+
+pub put-list-spec : {M : Type 1} → statement M
+put-list-spec = tie.close (tie.spec root-at-requires put-rounds-requires same-length returns)

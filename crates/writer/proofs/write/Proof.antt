@@ -1,0 +1,45 @@
+-- `writer::write` meets its contract, by the table's check and the number of words.
+-- Assumes nothing.
+use mathlib.Core.Path.{sym, _∙_}
+use native.Mathlib.Omega.{arith}
+use borrow.Author.Needs.{needs}
+use Rattle.writer.proofs.Promised.{writes-bad, writes-odd, writes-even}
+use Rattle.writer.proofs.write.Statement.{statement}
+use Rattle.writer.proofs.write.Tie as tie
+
+check-requires : tie.Need-check-requires
+check-requires c κs = search needs
+
+enum-known-checked : tie.Need-enum-known-checked
+enum-known-checked c = search needs
+
+enum-known-checked-2 : tie.Need-enum-known-checked-2
+enum-known-checked-2 c = search needs
+
+write-entries-requires : tie.Need-write-entries-requires
+write-entries-requires c κs = (sym (c .before .before .before .before .before .check .ensures) ∙ c .before .before .before .checked2 .given .1, omega arith)
+
+same-length : tie.Need-same-length
+same-length c = search needs
+
+returns : tie.Need-returns
+returns c = writes-even _ _ _ _ (sym (c .before .before .before .before .before .before .before .before .check .ensures) ∙ c .before .before .before .before .before .before .checked2 .given .1) (omega arith) (c .before .before .write-entries .ensures)
+
+returns-2 : tie.Need-returns-2
+returns-2 c = writes-bad _ _ _ _ (sym (c .before .before .before .check .ensures) ∙ c .before .checked .given .1)
+
+returns-3 : tie.Need-returns-3
+returns-3 c = writes-odd _ _ _ _ (sym (c .before .before .before .before .check .ensures) ∙ c .before .before .checked2 .given .1) (λ e. omega arith)
+
+pub write-spec : {M : Type 1} → statement M
+write-spec =
+    tie.close
+    (tie.spec
+    check-requires
+    enum-known-checked
+    enum-known-checked-2
+    write-entries-requires
+    same-length
+    returns
+    returns-2
+    returns-3)

@@ -1,0 +1,4 @@
+pub mod Bytes
+pub mod Own
+pub mod Steps
+pub mod Promise

@@ -11,6 +11,8 @@ use Rattle.wire.specs.declared.Checked.{Checked}
 use Rattle.wire.specs.declared.Checked.the-variants.{Good, Bad}
 use Rattle.wire.specs.declared.ReadAnswer.{ReadAnswer}
 use Rattle.wire.specs.declared.ReadAnswer.the-variants.{Done, Refused as NotRead}
+use Rattle.wire.specs.declared.WriteAnswer.{WriteAnswer}
+use Rattle.wire.specs.declared.WriteAnswer.the-variants.{Done as Written, Refused as NotWritten}
 use Rattle.wire.specs.declared.Side.{Side}
 use Rattle.wire.specs.declared.AskAnswer.{AskAnswer}
 use Rattle.wire.specs.declared.AskAnswer.the-variants.{Says, Refused as NotAsked}
@@ -19,8 +21,9 @@ use Rattle.wire.specs.declared.TakeAnswer.the-variants.{Done as Taken, Refused 
 use mir.Val.{boolByte}
 use Rattle.wire.specs.Reading.{Run, Outcome, reached, refused}
 use Rattle.reader.specs.Promise.{Reads}
-use Rattle.wire.specs.Answers.{refusalNumber, numbered, done, checkSays, readSays, takeSays, askSays, readAnswer, placeAfter}
-use Rattle.exports.specs.Calls.{Told, Read, sideNumber, whichOf, bit, yesOf, Asked, firstOf, secondOf, Took}
+use Rattle.writer.specs.Promise.{Writes}
+use Rattle.wire.specs.Answers.{refusalNumber, numbered, done, checkSays, readSays, writeSays, takeSays, askSays, readAnswer, placeAfter, Form, writeAnswer}
+use Rattle.exports.specs.Calls.{Told, Read, Wrote, sideNumber, whichOf, bit, yesOf, Asked, firstOf, secondOf, Took}
 
 -- ---- the check
 
@@ -58,6 +61,17 @@ module _ {w : Run} {store left : List ℕ} {r : ReadAnswer} (h : Reads w store r
   pub read-refused : {e : Refusal} {p n m : ℕ} → r ≡ NotRead e p n → m ≡ refusalNumber e → Read w store m p n left
   unfolding readSays numbered countOf
   read-refused g k = record { told = rw (said g) (record { number = k; place = refl }); count = counted g; stored = h .stored }
+
+-- ---- writing
+
+module _ {f : Form} {out left : List ℕ} {r : WriteAnswer} (h : Writes f out r left) where
+  pub write-done : {p : ℕ} → r ≡ Written p → Wrote f out 0 p left
+  unfolding writeSays done
+  write-done g = record { told = rw (sym (h .answered) ∙ g) (record { number = refl; place = refl }); written = h .stored }
+
+  pub write-refused : {e : Refusal} {p m : ℕ} → r ≡ NotWritten e p → m ≡ refusalNumber e → Wrote f out m p left
+  unfolding writeSays numbered
+  write-refused g k = record { told = rw (sym (h .answered) ∙ g) (record { number = k; place = refl }); written = h .stored }
 
 -- ---- the append question
 

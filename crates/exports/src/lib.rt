@@ -5,11 +5,13 @@ use wire::ReadAnswer;
 use wire::Refusal;
 use wire::Side;
 use wire::TakeAnswer;
+use wire::WriteAnswer;
 ghost use mathlib.Core.Path.{_≡_};
+ghost use lib.ListN.{length};
 ghost use Rattle.wire.specs.Table.{check};
-ghost use Rattle.wire.specs.Answers.{refusalNumber, checkSays, reads, takes, asks};
+ghost use Rattle.wire.specs.Answers.{refusalNumber, checkSays, reads, takes, writes, asks};
 ghost use Rattle.accumulator.specs.Feeding.{feedLent};
-ghost use Rattle.exports.specs.Calls.{Told, Read, sideNumber, Asked, Fed, Took};
+ghost use Rattle.exports.specs.Calls.{Told, Read, Wrote, sideNumber, Asked, Fed, Took};
 
 // Document 01's number of a refusal.
 fn number(why: Refusal) -> u64
@@ -85,6 +87,29 @@ pub extern "C" fn reystavem_read(
         } => {
             *place = at as u64;
             *count = made as u64;
+            number(why)
+        }
+    }
+}
+
+#[no_mangle]
+pub extern "C" fn reystavem_write(
+    table: &[u8],
+    words: &[u64],
+    pool: &[u8],
+    out: &mut [u8],
+    place: &mut u64,
+) -> u64
+    ensures { λ r. ⌜ Wrote (writes (now (table .entry)) (now (words .entry)) (now (pool .entry)) (length (now (out .entry)))) (now (out .entry)) r (now (place .exit)) (now (out .exit)) ⌝ }
+{
+    let got = writer::write(table, words, pool, out);
+    match got {
+        WriteAnswer::Done { place: end } => {
+            *place = end as u64;
+            0
+        }
+        WriteAnswer::Refused { why, place: at } => {
+            *place = at as u64;
             number(why)
         }
     }

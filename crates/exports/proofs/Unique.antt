@@ -1,0 +1,58 @@
+-- Each part that a contract names is an equation; where a chunk's rest begins is told by the rest's length.
+-- Assumes nothing.
+use mathlib.Core.Path.{_≡_, sym, ap, _∙_}
+use mathlib.Core.List.{List}
+use Prim.Native.Nat.{ℕ}
+use native.Mathlib.Omega.{arith}
+use lib.ListN.{length, length-drop}
+use Rattle.exports.specs.Unique.{OneTold, OneRead, OneWrote, OneAsked, OneFed, OneTook}
+
+-- two that equal a third
+alike : {A : Type 0} {a x y : A} → x ≡ a → y ≡ a → x ≡ y
+alike e f = e ∙ sym f
+
+pub one-told : OneTold
+one-told n x y h k = λ i. (alike (h .number) (k .number) i, alike (h .place) (k .place) i)
+
+pub one-read : OneRead
+one-read w store x y h k = λ i. (
+  alike (h .told .number) (k .told .number) i,
+  alike (h .told .place) (k .told .place) i,
+  alike (h .count) (k .count) i,
+  alike (h .stored) (k .stored) i,
+)
+
+pub one-wrote : OneWrote
+one-wrote f out x y h k = λ i. (
+  alike (h .told .number) (k .told .number) i,
+  alike (h .told .place) (k .told .place) i,
+  alike (h .written) (k .written) i,
+)
+
+pub one-asked : OneAsked
+one-asked a x y h k = λ i. (
+  alike (h .told .number) (k .told .number) i,
+  alike (h .told .place) (k .told .place) i,
+  alike (h .which) (k .which) i,
+  alike (h .yes) (k .yes) i,
+)
+
+pub one-fed : OneFed
+one-fed f chunk x y h k =
+    let from : x .3 ≡ y .3 = omega (arith, simp length-drop at (ap length (alike (h .rest) (k .rest)))) in
+    λ i. (
+      alike (h .number) (k .number) i,
+      alike (h .idx) (k .idx) i,
+      alike (h .len) (k .len) i,
+      from i,
+      alike (h .array) (k .array) i,
+      alike (h .message) (k .message) i,
+    )
+
+pub one-took : OneTook
+one-took t before x y h k = λ i. (
+  alike (h .number) (k .number) i,
+  alike (h .place) (k .place) i,
+  alike (h .first) (k .first) i,
+  alike (h .second) (k .second) i,
+)

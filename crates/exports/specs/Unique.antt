@@ -1,0 +1,29 @@
+-- No function of the static library has a second answer: what it returns, and every number, word and byte that it leaves.
+-- Assumes nothing.
+use mathlib.Core.List.{List}
+use Prim.Native.Nat.{ℕ}
+use Rattle.wire.specs.declared.AskAnswer.{AskAnswer}
+use Rattle.wire.specs.declared.TakeAnswer.{TakeAnswer}
+use Rattle.wire.specs.Reading.{Run}
+use Rattle.wire.specs.Answers.{Numbered, Form}
+use Rattle.laws.specs.Unique.{Unique}
+use Rattle.accumulator.specs.Feeding.{Lent}
+use Rattle.exports.specs.Calls.{Told, Read, Wrote, Asked, Fed, Took}
+
+abbrev pub OneTold : Type 0
+OneTold = (n : Numbered) → Unique (λ (x : ℕ × ℕ). Told n (x .0) (x .1))
+
+abbrev pub OneRead : Type 0
+OneRead = (w : Run) (store : List ℕ) → Unique (λ (x : ℕ × ℕ × ℕ × List ℕ). Read w store (x .0) (x .1) (x .2) (x .3))
+
+abbrev pub OneWrote : Type 0
+OneWrote = (f : Form) (out : List ℕ) → Unique (λ (x : ℕ × ℕ × List ℕ). Wrote f out (x .0) (x .1) (x .2))
+
+abbrev pub OneAsked : Type 0
+OneAsked = (a : AskAnswer) → Unique (λ (x : ℕ × ℕ × ℕ × ℕ). Asked a (x .0) (x .1) (x .2) (x .3))
+
+abbrev pub OneFed : Type 0
+OneFed = (f : Lent) (chunk : List ℕ) → Unique (λ (x : ℕ × ℕ × ℕ × ℕ × List ℕ × List ℕ). Fed f chunk (x .0) (x .1) (x .2) (x .3) (x .4) (x .5))
+
+abbrev pub OneTook : Type 0
+OneTook = (t : TakeAnswer) (before : ℕ) → Unique (λ (x : ℕ × ℕ × ℕ × ℕ). Took t before (x .0) (x .1) (x .2) (x .3))

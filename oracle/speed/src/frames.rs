@@ -61,7 +61,13 @@ fn by_groups(array: &mut [u8; ROOM], chunk: &[u8], message: &mut [u8; ROOM]) -> 
 
 pub fn report() {
     println!("| Frame of 250 bytes, message with | ours, ns | plain Rust, ns | ratio |\n|---|---|---|---|");
-    for (name, every) in [("no zero", 1000), ("every 8th a zero", 8), ("every 4th a zero", 4), ("every 2nd a zero", 2), ("zeros only", 1)] {
+    for (name, every) in [
+        ("no zero", 1000),
+        ("every 8th a zero", 8),
+        ("every 4th a zero", 4),
+        ("every 2nd a zero", 2),
+        ("zeros only", 1),
+    ] {
         let message: Vec<u8> = (1..=248).map(|i| if i % every == 0 { 0 } else { (i % 255) as u8 + 1 }).collect();
         let frame = frame(&message);
         assert_eq!(frame.len(), 250);

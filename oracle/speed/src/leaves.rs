@@ -49,7 +49,11 @@ fn width(name: &str, most: usize, last: u8, ours: Loop, theirs: fn(&[u8]) -> u64
         assert_eq!(call(ours, &message), theirs(&message), "{name}, {len} bytes");
         let mine = best(|| call(ours, black_box(&message))) / ITEMS as f64;
         let other = best(|| theirs(black_box(&message))) / ITEMS as f64;
-        println!("| {name}, {len} byte{} | {mine:.2} | {other:.2} | {:.2} |", if len == 1 { "" } else { "s" }, mine / other);
+        println!(
+            "| {name}, {len} byte{} | {mine:.2} | {other:.2} | {:.2} |",
+            if len == 1 { "" } else { "s" },
+            mine / other
+        );
     }
 }
 

@@ -55,6 +55,19 @@ impl Sample<'_> {
         ratio_row(self.name, ours, driven, typed);
     }
 
+    /// Both with a store that is allocated for the call.
+    fn reading_cold(&self) {
+        let (file, count) = (self.table.file(), self.entries().len());
+        let ours = best(|| {
+            let mut store = vec![0u64; 2 * count];
+            reystavem::read(black_box(&file), black_box(&self.message), &mut store).is_ok()
+        });
+        let driven =
+            best(|| read::read_good(&self.table, black_box(&self.message), count, Vec::with_capacity(count)).no);
+        let typed = best(|| (self.typed_read)(black_box(&self.message)));
+        ratio_row(&format!("{}, store allocated", self.name), ours, driven, typed);
+    }
+
     fn writing(&self) {
         let (file, entries, pool) = (self.table.file(), self.entries(), &self.message);
         let words = entries.as_flattened();
@@ -90,18 +103,51 @@ pub fn report() {
     let mut sequence = Table::parse(reystavem::samples::TABLE_T).expect("a good table");
     sequence.nodes.push(Node { kind: SEQ, kids: vec![3] });
     sequence.root = 4;
-    let fields = Table { nodes: vec![Node { kind: U32, kids: vec![] }, Node { kind: STRUCT, kids: vec![0; 200] }], root: 1 };
+    let fields =
+        Table { nodes: vec![Node { kind: U32, kids: vec![] }, Node { kind: STRUCT, kids: vec![0; 200] }], root: 1 };
 
     let samples = [
-        Sample { name: "one T", table: table_t, message: written(&one), typed_read: &read_as::<Stock>, typed_write: &|out| postcard::to_slice(black_box(&one), out).unwrap().len() },
-        Sample { name: "1,000 T", table: sequence, message: written(&many[..]), typed_read: &read_as::<Vec<Stock>>, typed_write: &|out| postcard::to_slice(black_box(&many[..]), out).unwrap().len() },
-        Sample { name: "200 fields", table: fields, message: written(&wide), typed_read: &read_as::<[[u32; 25]; 8]>, typed_write: &|out| postcard::to_slice(black_box(&wide), out).unwrap().len() },
-        Sample { name: "text, 64 KiB ASCII", table: Table::leaf(STR), message: written(&ascii[..]), typed_read: &read_as_text, typed_write: &|out| postcard::to_slice(black_box(&ascii[..]), out).unwrap().len() },
-        Sample { name: "text, 64 KiB mixed", table: Table::leaf(STR), message: written(&mixed[..]), typed_read: &read_as_text, typed_write: &|out| postcard::to_slice(black_box(&mixed[..]), out).unwrap().len() },
+        Sample {
+            name: "one T",
+            table: table_t,
+            message: written(&one),
+            typed_read: &read_as::<Stock>,
+            typed_write: &|out| postcard::to_slice(black_box(&one), out).unwrap().len(),
+        },
+        Sample {
+            name: "1,000 T",
+            table: sequence,
+            message: written(&many[..]),
+            typed_read: &read_as::<Vec<Stock>>,
+            typed_write: &|out| postcard::to_slice(black_box(&many[..]), out).unwrap().len(),
+        },
+        Sample {
+            name: "200 fields",
+            table: fields,
+            message: written(&wide),
+            typed_read: &read_as::<[[u32; 25]; 8]>,
+            typed_write: &|out| postcard::to_slice(black_box(&wide), out).unwrap().len(),
+        },
+        Sample {
+            name: "text, 64 KiB ASCII",
+            table: Table::leaf(STR),
+            message: written(&ascii[..]),
+            typed_read: &read_as_text,
+            typed_write: &|out| postcard::to_slice(black_box(&ascii[..]), out).unwrap().len(),
+        },
+        Sample {
+            name: "text, 64 KiB mixed",
+            table: Table::leaf(STR),
+            message: written(&mixed[..]),
+            typed_read: &read_as_text,
+            typed_write: &|out| postcard::to_slice(black_box(&mixed[..]), out).unwrap().len(),
+        },
     ];
-    let head = "ours, ns | the crate by a table, ns | the crate with types, ns | ours / by a table | ours / with types |";
+    let head =
+        "ours, ns | the crate by a table, ns | the crate with types, ns | ours / by a table | ours / with types |";
     println!("| Reading | {head}\n|---|---|---|---|---|---|");
     samples.iter().for_each(Sample::reading);
+    samples[1].reading_cold();
     println!("\n| Writing | {head}\n|---|---|---|---|---|---|");
     samples.iter().for_each(Sample::writing);
 }

@@ -1,14 +1,14 @@
 -- The two loops that read a number: what is known at their heads, and that one byte more is one digit more, which fits.
 -- Assumes nothing.
-use mathlib.Core.Path.{_≡_, refl, sym, ap, _∙_}
-use mathlib.Core.List.{List, [], _∷_, _++_, reverse, reverse-append}
+use mathlib.Core.Path.{_≡_, refl, ap, _∙_}
+use mathlib.Core.List.{List, [], _∷_, reverse, reverse-append}
 use Prim.Native.Nat.{ℕ, suc, _+_, _*_, _-_, _^_, _<_, _≤_}
 use native.Mathlib.Nat.{pow-le-pow-right}
 use native.Mathlib.Omega.{arith}
 use native.Mathlib.Numerals.{add-one}
 use lib.ListN.{length, getD, take, drop, length-drop, length-take}
-use lib.Seq.{slice-empty, slice-cons, take-suc, length-take-le}
-use Rattle.wire.specs.Shape.{Order, le, be}
+use lib.Seq.{slice-empty, slice-cons, take-suc}
+use Rattle.wire.specs.Shape.{le, be}
 use Rattle.wire.specs.Numbers.{inOrder, little}
 use Rattle.laws.specs.Range.{AreBytes}
 use Rattle.laws.proofs.Numbers.{length-order}

@@ -1,9 +1,9 @@
 -- A number of n bytes is wire's leaf of that size, once over the size, the sign and the order.
 -- Assumes nothing.
-use mathlib.Core.Path.{_≡_, refl, sym, _∙_}
+use mathlib.Core.Path.{_≡_, refl}
 use mathlib.Core.Bool.{Bool, true, false}
 use mathlib.Core.List.{List}
-use Prim.Native.Nat.{ℕ, _*_, _%_, _^_, _<_, _≤_}
+use Prim.Native.Nat.{ℕ, _*_, _^_, _<_, _≤_}
 use native.Mathlib.Nat.{mod-eq-of-lt}
 use native.Mathlib.Omega.{arith}
 use lib.ListN.{length, take}
@@ -11,8 +11,8 @@ use borrow.Author.Tests.{le-leb, lt-leb}
 use Rattle.wire.specs.declared.Refusal.the-variants.{End}
 use Rattle.wire.specs.declared.Item.the-variants.{Took, Refused}
 use Rattle.wire.specs.Tests.{pick}
-use Rattle.wire.specs.Shape.{Width, w16, w32, w64, bits, size, Order, le, be, Sign, signed, unsigned, fixed}
-use Rattle.wire.specs.Numbers.{signedWord, word, inOrder, little, wordOf}
+use Rattle.wire.specs.Shape.{Width, w16, w32, w64, bits, size, Order, le, Sign, signed, fixed}
+use Rattle.wire.specs.Numbers.{word, inOrder, little, wordOf}
 use Rattle.wire.specs.Reading.{readLeaf}
 use Rattle.zigzag.specs.Widths.{widthOf, extended}
 use Rattle.fixint.specs.Sizes.{byteOf, signOf, IsSize, numberOf, Floats}

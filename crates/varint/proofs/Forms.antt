@@ -9,10 +9,7 @@ use native.Mathlib.Omega.{arith}
 use lib.ListN.{length}
 use borrow.Author.Tests.{le-leb, lt-leb}
 use Rattle.wire.specs.declared.Refusal.{Refusal}
-use Rattle.wire.specs.declared.Refusal.the-variants.{End, Varint}
 use Rattle.wire.specs.declared.Item.the-variants.{Took, Refused}
-use Rattle.wire.specs.Tests.{pick}
-use Rattle.wire.specs.Shape.{Width}
 use Rattle.wire.specs.Numbers.{most, last, low, varintF, varint}
 use Rattle.laws.specs.Range.{span}
 use Rattle.laws.proofs.Varints.{varints, varint-small, varint-more, good, span-bits}

@@ -1,13 +1,12 @@
 -- A loop that reads a varint: what is known at its head, over every width, and what one byte more makes of it.
 -- Assumes nothing.
 use mathlib.Core.Path.{_≡_, refl, sym, _∙_}
-use mathlib.Core.List.{List, [], _∷_}
+use mathlib.Core.List.{List}
 use Prim.Native.Nat.{ℕ, zero, suc, _+_, _*_, _^_, _%_, _<_, _≤_}
 use native.Mathlib.Nat.{zero-add, one-mul, mul-one, mul-add, mul-assoc, mul-le-mul-left, mod-lt, mod-eq-of-lt}
 use native.Mathlib.Omega.{arith}
 use lib.ListN.{length, getD, drop, drop-of-length-le}
-use lib.Dec.{leb, eqb}
-use borrow.Author.Tests.{lt-ltb, le-ltb, le-leb, lt-leb, eq-eqb, ne-eqb}
+use borrow.Author.Tests.{lt-ltb, le-ltb, le-leb, lt-leb, ne-eqb}
 use Rattle.wire.specs.declared.Refusal.the-variants.{End, Varint}
 use Rattle.wire.specs.declared.Item.{Item}
 use Rattle.wire.specs.declared.Item.the-variants.{Took, Refused}
@@ -15,7 +14,7 @@ use Rattle.wire.specs.Tests.{pick, both}
 use Rattle.wire.specs.Shape.{w16, w32, w64}
 use Rattle.wire.specs.Numbers.{most, last, low, varintF, varint}
 use Rattle.laws.specs.Range.{span, InRange}
-use Rattle.laws.proofs.Splits.{by-lt, by-le, by-eq}
+use Rattle.laws.proofs.Splits.{by-le, by-eq}
 use Rattle.laws.proofs.Parts.{next}
 use Rattle.laws.proofs.Varints.{varints, span-pos, in-range}
 use Rattle.varint.specs.Takes.{limitOf, takes, AtWidth}

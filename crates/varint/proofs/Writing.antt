@@ -1,7 +1,7 @@
 -- The loops that store and count a shortest varint: what is known at their heads, and what one byte more makes of it.
 -- Assumes nothing.
 use mathlib.Core.Path.{_≡_, refl, _∙_}
-use mathlib.Core.List.{List, [], _∷_}
+use mathlib.Core.List.{List}
 use Prim.Native.Nat.{ℕ, zero, suc, _+_, _*_, _/_, _%_, _<_, _≤_, _^_}
 use native.Mathlib.Nat.{add-zero, zero-add, add-assoc}
 use native.Mathlib.Numerals.{add-one}
@@ -9,7 +9,6 @@ use native.Mathlib.Omega.{arith}
 use lib.ListN.{length, set, length-set}
 use lib.Seq.{sets}
 use borrow.Author.Tests.{lt-ltb, le-ltb}
-use Rattle.wire.specs.Tests.{pick}
 use Rattle.wire.specs.Numbers.{most, shortestF, shortest}
 use Rattle.laws.specs.Range.{span}
 use Rattle.laws.proofs.Varints.{varints}

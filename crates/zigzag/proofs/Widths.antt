@@ -6,14 +6,14 @@ use Prim.Native.Nat.{ℕ, _+_, _-_, _*_, _/_, _%_, _^_, _<_, _≤_}
 use native.Mathlib.Nat.{one-le-pow, mod-lt, zero-mul, one-mul, zero-add}
 use native.Mathlib.Omega.{arith}
 use lib.Arith.{mod-mul}
-use lib.Dec.{ltb, leb, eqb}
-use borrow.Author.Tests.{lt-ltb, le-ltb, le-leb, lt-leb, eq-eqb, ne-eqb}
+use lib.Dec.{ltb}
+use borrow.Author.Tests.{lt-ltb, le-ltb, le-leb, lt-leb, ne-eqb}
 use Rattle.wire.specs.Tests.{pick}
 use Rattle.wire.specs.Shape.{w16, bits}
 use Rattle.wire.specs.Numbers.{most, shortestF, shortest, signedWord, isSignedWord, zigzag}
 use Rattle.laws.proofs.Splits.{by-lt, by-eq}
 use Rattle.laws.proofs.Numbers.{Bits, bits8, bits32, bits64, bitsOf, signed-low, signed-high}
-use Rattle.zigzag.specs.Widths.{widthOf, extended, Case}
+use Rattle.zigzag.specs.Widths.{widthOf, Case}
 
 -- ---- the widths
 

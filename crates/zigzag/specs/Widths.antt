@@ -1,7 +1,7 @@
 -- The widths of signed numbers, and the word that a number's low bits are.
 -- Assumes nothing.
 use mathlib.Core.Path.{_≡_}
-use mathlib.Core.List.{List, [], _∷_}
+use mathlib.Core.List.{[], _∷_}
 use Prim.Native.Nat.{ℕ, _-_, _%_, _^_}
 use lib.Dec.{eqb}
 use Rattle.wire.specs.Tests.{pick}

@@ -1,6 +1,6 @@
 -- `fixint::with_sign` meets its contract.
 -- Assumes nothing.
-use mathlib.Core.Path.{refl, _∙_}
+use mathlib.Core.Path.{_∙_}
 use borrow.Author.Needs.{needs}
 use Rattle.wire.specs.Numbers as numbers
 use Rattle.fixint.specs.Sizes.{signOf}

@@ -1,0 +1,16 @@
+-- Each call's contract leaves no choice.
+-- Assumes nothing.
+use mathlib.Core.Path.{_≡_}
+use mathlib.Core.List.{List}
+use Prim.Native.Nat.{ℕ}
+use Rattle.wire.specs.declared.Refusal.{Refusal}
+use Rattle.wire.specs.declared.Item.{Item}
+use Rattle.wire.specs.Reading.{flag}
+use Rattle.laws.specs.Unique.{Unique}
+use Rattle.leaf.specs.Leaves.{takeAt}
+
+abbrev pub OneFlag : Type 0
+OneFlag = (e : Refusal) (s : List ℕ) → Unique (λ (r : Item). r ≡ flag e s)
+
+abbrev pub OneTake : Type 0
+OneTake = (k p : ℕ) (s : List ℕ) → Unique (λ (r : Item). r ≡ takeAt k p s)

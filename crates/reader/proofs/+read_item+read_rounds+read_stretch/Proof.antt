@@ -1,0 +1,170 @@
+-- The cycle of calls: an item, the rounds of the stretch that follows it, one round. The node's number falls from an item to those of its stretch.
+-- Assumes nothing.
+use mathlib.Core.Path.{_≡_, refl}
+use Prim.Native.Nat.{ℕ, _+_, _*_, _-_, _<_, _≤_}
+use native.Mathlib.Omega.{arith}
+use lib.ListN.{length}
+use borrow.Author.Needs.{needs}
+use borrow.Fn.Kinds.{In}
+use borrow.Fn.PlainCycle.{Measures, is, falls, and}
+use Rattle.wire.specs.Answers.{roomOf}
+use Rattle.laws.proofs.Parts.{length-tail}
+use Rattle.table.specs.Parts.{Falls}
+use Rattle.table.proofs.Stretches.{falls-first, falls-next}
+use Rattle.table.proofs.u16_at.Reads as u16-at-reads
+use Rattle.reader.specs.Lay.{lay}
+use Rattle.reader.specs.Steps.{spot, readRow, readRounds}
+use Rattle.reader.proofs.Turns.{Went, item-goes, item-refused, item-end, item-on, turn-refused, turned, row-end, row-first, rounds-end, rounds-first, node-steady, row-steady}
+use Rattle.reader.proofs.enter.Reads as enter-reads
+use Rattle.reader.proofs.read_item.Reads as read-item
+use Rattle.reader.proofs.read_item.Kinds as read-item-kinds
+use Rattle.reader.proofs.+read_item+read_rounds+read_stretch.Lts-read_item as read-item-lts
+use Rattle.reader.proofs.read_rounds.Reads as read-rounds
+use Rattle.reader.proofs.read_rounds.Kinds as read-rounds-kinds
+use Rattle.reader.proofs.+read_item+read_rounds+read_stretch.Lts-read_rounds as read-rounds-lts
+use Rattle.reader.proofs.read_stretch.Reads as read-stretch
+use Rattle.reader.proofs.read_stretch.Kinds as read-stretch-kinds
+use Rattle.reader.proofs.+read_item+read_rounds+read_stretch.Lts-read_stretch as read-stretch-lts
+use Rattle.reader.proofs.+read_item+read_rounds+read_stretch.{statement}
+use Rattle.reader.proofs.+read_item+read_rounds+read_stretch.Tie.{close}
+
+abbrev μ-item : Measures 3 read-item-kinds.ps ℕ
+μ-item κs a = a .1 .1 .0 * 3 + 2
+
+abbrev μ-rounds : Measures 3 read-rounds-kinds.ps ℕ
+μ-rounds κs a = a .1 .1 .0 * 3 + 1
+
+abbrev μ-stretch : Measures 3 read-stretch-kinds.ps ℕ
+μ-stretch κs a = a .1 .1 .0 * 3 + 0
+
+-- ---- an item
+
+module _ (t : ℕ) where
+  abbrev item-at : In 3 read-item-kinds.ps
+  item-at = and 3 read-item-kinds.ps (is 3 read-item-kinds.ps μ-item t) read-item.Pre
+
+  abbrev item-calls : read-item-lts.Claims
+  item-calls = (enter-reads.Asked, enter-reads.Learnt, and 3 read-rounds-kinds.ps (falls 3 read-rounds-kinds.ps _<_ μ-rounds t) read-rounds.Pre, read-rounds.Post)
+
+  item-enter-requires : read-item-lts.Need-enter-requires item-calls item-at read-item.Post
+  item-enter-requires c κs = c .before .before .before .before .pre .1
+
+  item-add-after : read-item-lts.Need-add-after item-calls item-at read-item.Post
+  item-add-after c = let g = item-goes (c .before .before .before .before .before .enter .ensures) (c .before .entered2 .given .1) in omega (arith, g .inside, c .before .before .before .before .before .before .before .before .before .before .pre .1 .1 .1)
+
+  item-add-next : read-item-lts.Need-add-next item-calls item-at read-item.Post
+  unfolding roomOf
+  item-add-next c = let g = item-goes (c .before .before .before .before .before .enter .ensures) (c .before .entered2 .given .1) in omega (arith, g .room)
+
+  item-returns : read-item-lts.Need-returns item-calls item-at read-item.Post
+  item-returns c = item-end (item-goes (c .before .before .before .before .before .before .before .enter .ensures) (c .before .before .before .entered2 .given .1)) (c .if1 .taken)
+
+  item-inside : (c : read-item-lts.Else1 item-calls item-at read-item.Post) → c .before .before .before .entered2 .given .0 .1 .0 ≤ length (c .before .before .before .before .before .before .before .before .before .before .before .before .args .part .now)
+  item-inside c = item-goes (c .before .before .before .before .before .before .before .enter .ensures) (c .before .before .before .entered2 .given .1) .inside
+
+  item-read-rounds-requires : read-item-lts.Need-read-rounds-requires item-calls item-at read-item.Post
+  item-read-rounds-requires c κs =
+      let s = c .before .before .before .before .before .before .before .before .before .before .before .before .before .before in
+      let g = item-goes (c .before .before .before .before .before .before .before .before .before .enter .ensures) (c .before .before .before .before .before .entered2 .given .1) in
+      let low : s .args .node * 3 + 1 < s .args .node * 3 + 2 = omega arith in
+      (rw (s .pre .0) at low, (s .pre .1 .0, (omega (arith, s .pre .1 .1 .0), (g .falls, omega (arith, g .inside, s .pre .1 .1 .1, length-tail (s .args .part .now) (c .before .before .before .before .before .entered2 .given .0 .1 .0))))))
+
+  item-returns-2 : read-item-lts.Need-returns-2 item-calls item-at read-item.Post
+  item-returns-2 c = item-refused (c .before .before .before .before .before .enter .ensures) (c .before .entered .given .1)
+
+  item-returns-3 : read-item-lts.Need-returns-3 item-calls item-at read-item.Post
+  item-returns-3 c = item-on (item-goes (c .before .before .before .before .before .before .before .before .before .before .before .before .enter .ensures) (c .before .before .before .before .before .before .before .before .entered2 .given .1)) (c .before .before .read-rounds .ensures)
+
+-- ---- the rounds
+
+abbrev rounds-Inv : read-rounds-lts.InvT-loop
+rounds-Inv table l node from width rounds part place store₀ made rest₀ at₀ sofar₀ left₀ store rest at sofar left =
+    (lay (readRounds table l rounds from width (spot part place)) made store₀ ≡ lay (readRounds table l left from width (spot rest at)) sofar store)
+    × (at + length rest ≡ place + length part)
+    × (length store ≡ length store₀)
+
+abbrev rounds-μ : read-rounds-lts.MeasureT-loop
+rounds-μ table l node from width rounds part place store₀ made rest₀ at₀ sofar₀ left₀ store rest at sofar left = left
+
+module _ (t : ℕ) where
+  abbrev rounds-at : In 3 read-rounds-kinds.ps
+  rounds-at = and 3 read-rounds-kinds.ps (is 3 read-rounds-kinds.ps μ-rounds t) read-rounds.Pre
+
+  abbrev rounds-calls : read-rounds-lts.Claims
+  rounds-calls = (and 3 read-stretch-kinds.ps (falls 3 read-stretch-kinds.ps _<_ μ-stretch t) read-stretch.Pre, read-stretch.Post)
+
+  rounds-read-stretch-requires : read-rounds-lts.Need-read-stretch-requires rounds-calls rounds-at read-rounds.Post rounds-Inv rounds-μ
+  rounds-read-stretch-requires c κs = let s = c .before .before .before .before .before .before in (omega arith, (s .pre .1 .0, (s .pre .1 .1 .0, (s .pre .1 .1 .1 .0, omega arith))))
+
+  rounds-returns : read-rounds-lts.Need-returns rounds-calls rounds-at read-rounds.Post rounds-Inv rounds-μ
+  rounds-returns c =
+      turn-refused _ _ (row-steady _ _ _ _) _ _ _ _ _ (rounds-first _ _ _ _ _ _ _ _ _ _ (c .before .before .before .before .before .before .before .loop .inv .0) (c .before .before .before .before .before .before .loop-test .taken)) _ _ (c .before .before .before .before .read-stretch .ensures) (c .enum-told .given .1)
+
+  rounds-went : (c : read-rounds-lts.After-got rounds-calls rounds-at read-rounds.Post rounds-Inv rounds-μ) → Went (c .before .before .before .before .before .before .before .loop .rest .now) (c .before .before .before .before .before .before .before .loop .at) (c .got .given .0 .0)
+  rounds-went c =
+      turned _ _ (row-steady _ _ _ _) _ _ _ _ _ (rounds-first _ _ _ _ _ _ _ _ _ _ (c .before .before .before .before .before .before .before .loop .inv .0) (c .before .before .before .before .before .before .loop-test .taken)) _ _ (c .before .before .before .before .read-stretch .ensures) (c .got .given .1) .0
+
+  rounds-loop-again : read-rounds-lts.Need-loop-again rounds-calls rounds-at read-rounds.Post rounds-Inv rounds-μ
+  rounds-loop-again c =
+      let d = c .before .before in (
+        turned _ _ (row-steady _ _ _ _) _ _ _ _ _ (rounds-first _ _ _ _ _ _ _ _ _ _ (d .before .before .before .before .before .before .before .loop .inv .0) (d .before .before .before .before .before .before .loop-test .taken)) _ _ (d .before .before .before .before .read-stretch .ensures) (d .got .given .1) .1,
+        omega (arith, rounds-went d .kept),
+        search needs,
+      )
+
+  rounds-returns-2 : read-rounds-lts.Need-returns-2 rounds-calls rounds-at read-rounds.Post rounds-Inv rounds-μ
+  rounds-returns-2 c = rounds-end _ _ _ _ _ _ _ _ _ _ (c .before .loop .inv .0) (c .loop-test .left)
+
+-- ---- a stretch
+
+abbrev stretch-Inv : read-stretch-lts.InvT-loop
+stretch-Inv table l node from width part place store₀ made rest₀ at₀ sofar₀ child₀ left₀ store rest at sofar child left =
+    (lay (readRow table l from width (spot part place)) made store₀ ≡ lay (readRow table l child left (spot rest at)) sofar store)
+    × Falls table child left node
+    × (at + length rest ≡ place + length part)
+    × (length store ≡ length store₀)
+
+abbrev stretch-μ : read-stretch-lts.MeasureT-loop
+stretch-μ table l node from width part place store₀ made rest₀ at₀ sofar₀ child₀ left₀ store rest at sofar child left = left
+
+module _ (t : ℕ) where
+  abbrev stretch-at : In 3 read-stretch-kinds.ps
+  stretch-at = and 3 read-stretch-kinds.ps (is 3 read-stretch-kinds.ps μ-stretch t) read-stretch.Pre
+
+  abbrev stretch-calls : read-stretch-lts.Claims
+  stretch-calls = (u16-at-reads.Asked, u16-at-reads.Learnt, and 3 read-item-kinds.ps (falls 3 read-item-kinds.ps _<_ μ-item t) read-item.Pre, read-item.Post)
+
+  stretch-read-item-requires : read-stretch-lts.Need-read-item-requires stretch-calls stretch-at read-stretch.Post stretch-Inv stretch-μ
+  stretch-read-item-requires c κs =
+      let s = c .before .before .before .before .before .before .before in
+      let f = falls-first (c .before .before .before .loop .inv .1) (c .before .before .loop-test .taken) in
+      (omega arith, (s .pre .1 .0, (omega arith, omega arith)))
+
+  stretch-returns : read-stretch-lts.Need-returns stretch-calls stretch-at read-stretch.Post stretch-Inv stretch-μ
+  stretch-returns c =
+      turn-refused _ _ (node-steady _ _ _) _ _ _ _ _ (row-first _ _ _ _ _ _ _ _ _ (c .before .before .before .before .before .before .before .before .loop .inv .0) (c .before .before .before .before .before .before .before .loop-test .taken) _ (c .before .before .before .before .before .before .u16-at .ensures .0)) _ _ (c .before .before .before .before .read-item .ensures) (c .enum-told .given .1)
+
+  stretch-went : (c : read-stretch-lts.After-got stretch-calls stretch-at read-stretch.Post stretch-Inv stretch-μ) → Went (c .before .before .before .before .before .before .before .before .loop .rest .now) (c .before .before .before .before .before .before .before .before .loop .at) (c .got .given .0 .0)
+  stretch-went c =
+      turned _ _ (node-steady _ _ _) _ _ _ _ _ (row-first _ _ _ _ _ _ _ _ _ (c .before .before .before .before .before .before .before .before .loop .inv .0) (c .before .before .before .before .before .before .before .loop-test .taken) _ (c .before .before .before .before .before .before .u16-at .ensures .0)) _ _ (c .before .before .before .before .read-item .ensures) (c .got .given .1) .0
+
+  stretch-loop-again : read-stretch-lts.Need-loop-again stretch-calls stretch-at read-stretch.Post stretch-Inv stretch-μ
+  stretch-loop-again c =
+      let d = c .before .before in (
+        turned _ _ (node-steady _ _ _) _ _ _ _ _ (row-first _ _ _ _ _ _ _ _ _ (d .before .before .before .before .before .before .before .before .loop .inv .0) (d .before .before .before .before .before .before .before .loop-test .taken) _ (d .before .before .before .before .before .before .u16-at .ensures .0)) _ _ (d .before .before .before .before .read-item .ensures) (d .got .given .1) .1,
+        falls-next (d .before .before .before .before .before .before .before .before .loop .inv .1) (d .before .before .before .before .before .before .before .loop-test .taken),
+        omega (arith, stretch-went d .kept),
+        search needs,
+      )
+
+  stretch-returns-2 : read-stretch-lts.Need-returns-2 stretch-calls stretch-at read-stretch.Post stretch-Inv stretch-μ
+  stretch-returns-2 c = row-end _ _ _ _ _ _ _ _ _ (c .before .loop .inv .0) (c .loop-test .left)
+
+-- ---- all three
+
+pub +read-item+read-rounds+read-stretch-spec : {M : Type 1} → statement M
++read-item+read-rounds+read-stretch-spec =
+    close μ-item μ-rounds μ-stretch
+    (λ t. read-item-lts.spec (item-calls t) (item-at t) read-item.Post (item-enter-requires t) (λ c. search needs) (λ c. search needs) (item-add-after t) (item-add-next t) (λ c. search needs) (item-returns t) (item-inside t) (item-inside t) (λ c. search needs) (item-read-rounds-requires t) (λ c. search needs) (item-returns-2 t) (λ c. search needs) (item-returns-3 t))
+    (λ t. read-rounds-lts.spec (rounds-calls t) (rounds-at t) read-rounds.Post rounds-Inv rounds-μ (λ c. (refl, refl, refl)) (rounds-read-stretch-requires t) (λ c. search needs) (λ c. search needs) (λ c. search needs) (rounds-returns t) (λ c. rounds-went t (c .before) .up) (λ c. rounds-went t (c .before) .inside) (λ c. rounds-went t (c .before) .inside) (λ c. search needs) (λ c. search needs) (λ c. search needs) (rounds-loop-again t) (λ c. search needs) (rounds-returns-2 t))
+    (λ t. read-stretch-lts.spec (stretch-calls t) (stretch-at t) read-stretch.Post stretch-Inv stretch-μ (λ c. (refl, c .before .before .before .pre .1 .1 .1 .0, refl, refl)) (λ c κs. omega arith) (stretch-read-item-requires t) (λ c. search needs) (λ c. search needs) (λ c. search needs) (stretch-returns t) (λ c. stretch-went t (c .before) .up) (λ c. stretch-went t (c .before) .inside) (λ c. stretch-went t (c .before) .inside) (λ c. search needs) (λ c. omega arith) (λ c. search needs) (λ c. search needs) (stretch-loop-again t) (λ c. search needs) (stretch-returns-2 t))

@@ -1,0 +1,63 @@
+-- What an item's own bytes are, by its kind's number, and of a variant's number.
+-- Assumes nothing.
+use mathlib.Core.Path.{_≡_, refl, sym, ap, _∙_}
+use mathlib.Core.List.{List}
+use Prim.Native.Nat.{ℕ, _+_, _<_, _≤_, _^_}
+use native.Mathlib.Omega.{arith}
+use lib.ListN.{length}
+use borrow.Author.Tests.{lt-ltb, le-ltb}
+use Rattle.wire.specs.declared.Refusal.{Refusal}
+use Rattle.wire.specs.declared.Refusal.the-variants.{Option as BadOption, Variant}
+use Rattle.wire.specs.declared.Item.{Item}
+use Rattle.wire.specs.declared.Item.the-variants.{Took, Refused}
+use Rattle.wire.specs.Tests.{pick}
+use Rattle.wire.specs.Shape.{w32, w64}
+use Rattle.wire.specs.Numbers.{varint}
+use Rattle.wire.specs.Table.{kinds, kindOf}
+use Rattle.wire.specs.Reading.{flag, known, head}
+use Rattle.laws.proofs.Splits.{by-lt}
+use Rattle.laws.proofs.EachKind.{end, _&_, in-kinds, low-kinds, high-kinds}
+use Rattle.leaf.specs.Leaves.{takeAt}
+use Rattle.leaf.proofs.Leaves.{low-leaf, high-leaf}
+
+-- ---- a variant's number
+
+module _ (n : ℕ) (i : Item) where
+  pub known-refused : {e : Refusal} → i ≡ Refused e → i ≡ known n i
+  unfolding known
+  known-refused p = p ∙ ap (known n) (sym p)
+
+  pub known-good : {v b u : ℕ} → i ≡ Took v b u → v < n → Took v b u ≡ known n i
+  unfolding known pick
+  known-good {v} p h = rw (p, lt-ltb v n h)
+
+  pub known-not : {v b u : ℕ} → i ≡ Took v b u → n ≤ v → Refused Variant ≡ known n i
+  unfolding known pick
+  known-not {v} p h = rw (p, le-ltb v n h)
+
+-- ---- by number
+
+module _ (n p : ℕ) (s : List ℕ) (k : ℕ) where
+  pub head-option : k ≡ 15 → flag BadOption s ≡ head (kindOf k) n p s
+  unfolding head kindOf kinds
+  head-option e = rw e
+
+  pub head-count : 15 < k → k < 18 → varint w64 s ≡ head (kindOf k) n p s
+  unfolding head kinds
+  head-count g h = in-kinds (λ q. varint w64 s ≡ head q n p s) 16 2 refl (refl & refl & end) k g h
+
+  pub head-struct : k ≡ 18 → Took 0 0 0 ≡ head (kindOf k) n p s
+  unfolding head kindOf kinds
+  head-struct e = rw e
+
+  pub head-enum : k ≡ 19 → known n (varint w32 s) ≡ head (kindOf k) n p s
+  unfolding head kindOf kinds
+  head-enum e = rw e
+
+  -- without children, how many there are does not matter
+  pub head-leaf : (15 ≤ k → k ≤ 19 → ⊥) → k < 32 → p + length s < 2 ^ 64 → takeAt k p s ≡ head (kindOf k) n p s
+  unfolding takeAt pick head
+  head-leaf outer few fits =
+      by-lt k 15
+      (λ h. rw (lt-ltb (p + length s) (2 ^ 64) fits, low-leaf k h) (low-kinds (λ q. head q 0 p s ≡ head q n p s) (λ x. refl) (λ c. refl) k h))
+      (λ h. by-lt 19 k (λ g. rw (lt-ltb (p + length s) (2 ^ 64) fits, high-leaf k g (omega arith)) (high-kinds (λ q. head q 0 p s ≡ head q n p s) (λ x. refl) (λ c. refl) k g)) (λ g. absurd (outer h g)))

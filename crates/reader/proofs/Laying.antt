@@ -1,0 +1,64 @@
+-- Laying a run: entries in front of it are laid first, and what comes behind it is laid from where it was left.
+-- Assumes nothing.
+use mathlib.Core.Path.{_≡_, refl, ap, _∙_}
+use mathlib.Core.List.{List, [], _∷_, _++_}
+use Prim.Native.Nat.{ℕ, _+_, _-_, _*_}
+use native.Mathlib.Nat.{add-zero, add-assoc}
+use native.Mathlib.Omega.{arith}
+use lib.ListN.{length, length-append}
+use lib.Seq.{sets, length-sets}
+use Rattle.wire.specs.Values.{Entry}
+use Rattle.wire.specs.Reading.{Spot, Outcome, reached, refused, Run, behind, readNothing, readOn, readThen, within, fit}
+use Rattle.wire.specs.Answers.{wordsPer, words, wordsOf, roomOf}
+use Rattle.laws.proofs.Parts.{sets-append}
+use Rattle.laws.proofs.Runs.{fit-then}
+use Rattle.laws.proofs.Places.{length-words}
+use Rattle.reader.specs.Lay.{Left, laid, lay}
+
+abbrev pub left : Outcome → ℕ → List ℕ → Left
+left end n s = record { ends = end; count = n; store = s }
+
+-- ---- no entries, and entries in front
+
+pub laid-none : (o : Outcome) (m : ℕ) (s : List ℕ) → laid (record { made = []; ends = o }) m s ≡ left o m s
+unfolding laid words
+laid-none o m s = rw (add-zero m)
+
+pub lay-nothing : (x : Spot) (m : ℕ) (s : List ℕ) → lay (readNothing x) m s ≡ left (reached x) m s
+unfolding lay fit within readNothing
+lay-nothing x m s = laid-none (reached x) m s
+
+words-append : (es fs : List Entry) → words (es ++ fs) ≡ words es ++ words fs
+unfolding words wordsOf
+words-append [] fs = refl
+words-append (e ∷ es) fs = rw (words-append es fs)
+
+pub laid-behind : (es : List Entry) (r : Run) (m : ℕ) (s : List ℕ)
+    → laid (behind es r) m s ≡ laid r (m + length es) (sets s (wordsPer * m) (words es))
+unfolding laid behind
+laid-behind es r m s =
+    let at : wordsPer * (m + length es) ≡ wordsPer * m + length (words es) = omega (arith, length-words es) in
+    rw (at, sets-append s (wordsPer * m) (words es) (words (r .made)), words-append es (r .made), length-append es (r .made), add-assoc m (length es) (length (r .made)))
+
+-- ---- one run behind another
+
+-- stores do not change a store's room
+pub room-sets : (s : List ℕ) (i : ℕ) (ws : List ℕ) → roomOf (sets s i ws) ≡ roomOf s
+unfolding roomOf
+room-sets s i ws = rw (length-sets s i ws)
+
+-- what g makes of where a run was left
+abbrev pub onBy : Outcome → Left → (Spot → Run) → Left
+onBy (reached y) w g = lay (g y) (w .count) (w .store)
+onBy (refused e p) w g = w
+
+pub lay-then : (f g : Spot → Run) (x : Spot) (m : ℕ) (s : List ℕ) → lay (readThen f g x) m s ≡ onBy (lay (f x) m s .ends) (lay (f x) m s) g
+unfolding lay laid readOn
+lay-then f g x m s = ap (λ r. laid r m s) (fit-then (roomOf s - m) f g x) ∙ go (fit (roomOf s - m) (f x) .made) (fit (roomOf s - m) (f x) .ends)
+  where
+    go : (es : List Entry) (o : Outcome)
+        → laid (readOn es o (λ y. fit (roomOf s - m - length es) (g y))) m s ≡ onBy o (laid (record { made = es; ends = o }) m s) g
+    go es (refused e p) = refl
+    go es (reached y) =
+        let rest : roomOf s - (m + length es) ≡ roomOf s - m - length es = omega arith in
+        laid-behind es (fit (roomOf s - m - length es) (g y)) m s ∙ rw (room-sets s (wordsPer * m) (words es), rest)

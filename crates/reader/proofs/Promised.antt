@@ -1,0 +1,113 @@
+-- The public promises, from what the cycle gives for the root, whose number stands in the trailer.
+-- Assumes nothing.
+use mathlib.Core.Path.{_≡_, refl, sym, ap, ap₂, _∙_}
+use mathlib.Core.List.{List, [], _∷_}
+use Prim.Native.Nat.{ℕ, zero, suc, _+_, _-_, _<_, _≤_}
+use native.Mathlib.Nat.{sub-zero, zero-add}
+use native.Mathlib.Omega.{arith}
+use lib.ListN.{length, take, drop, drop-of-length-le}
+use lib.Seq.{sets, sets-eq}
+use Rattle.wire.specs.declared.Refusal.{Refusal}
+use Rattle.wire.specs.declared.Layout.{Layout}
+use Rattle.wire.specs.declared.Checked.{Checked}
+use Rattle.wire.specs.declared.Checked.the-variants.{Good, Bad}
+use Rattle.wire.specs.declared.ReadAnswer.{ReadAnswer}
+use Rattle.wire.specs.declared.ReadAnswer.the-variants.{Done, Refused}
+use Rattle.wire.specs.Table.{check, shapeOf}
+use Rattle.wire.specs.Values.{Entry}
+use Rattle.wire.specs.Reading.{Spot, past, Outcome, reached, refused, Run, front, head, behind, reading, read, within, fit}
+use Rattle.wire.specs.Answers.{words, roomOf, readBy, readAnswer, restOf, storeWith, reads}
+use Rattle.laws.specs.Bounds.{Stays, reaches, refuses}
+use Rattle.laws.specs.Tables.{nodeShape}
+use Rattle.laws.proofs.Bounds.{read-stays}
+use Rattle.laws.proofs.Children.{row-once}
+use Rattle.laws.proofs.Parts.{tail}
+use Rattle.laws.proofs.Places.{length-words}
+use Rattle.laws.proofs.Runs.{then-nothing, fit-reached}
+use Rattle.laws.proofs.Tables.{good-table}
+use Rattle.laws.proofs.Unique.{by-equation}
+use Rattle.table.proofs.Stretches.{root-number}
+use Rattle.reader.specs.Lay.{laid, lay, Gives}
+use Rattle.reader.specs.Steps.{readRow, readRounds}
+use Rattle.reader.specs.Promise.{Reads, RestIsLeft, OneReading, OneRest}
+
+-- ---- the store
+
+few : (room : ℕ) (es : List Entry) (o : Outcome) → length (within room es o .made) ≤ room
+unfolding within behind
+few room [] (reached x) = omega arith
+few zero [] (refused e p) = omega arith
+few (suc room) [] (refused e p) = omega arith
+few zero (e ∷ es) o = omega arith
+few (suc room) (e ∷ es) o = let h = few room es o in omega arith
+
+in-front : (es : List Entry) (s : List ℕ) → length es ≤ roomOf s → sets s 0 (words es) ≡ storeWith es s
+unfolding storeWith roomOf
+in-front es s h = sets-eq (words es) s 0 (omega (arith, length-words es)) ∙ rw (zero-add (length (words es)))
+
+-- a run that is laid into a store from its front on
+reads-front : (r : Run) (s : List ℕ) {a : ReadAnswer} {st : List ℕ} → Gives (lay r 0 s) a st → Reads (fit (roomOf s) r) s a st
+unfolding lay laid fit
+reads-front r s g =
+    let all = rw (sub-zero (roomOf s)) at g in
+    record {
+      answered = all .answered ∙ rw (zero-add (length (within (roomOf s) (r .made) (r .ends) .made)));
+      stored = all .stored ∙ in-front (within (roomOf s) (r .made) (r .ends) .made) s (few (roomOf s) (r .made) (r .ends));
+    }
+
+-- ---- the reading
+
+module _ (table message store : List ℕ) where
+  pub reads-bad : {e : Refusal} {p : ℕ} → check table ≡ Bad e p → Reads (reads table message store) store (Refused e p 0) store
+  unfolding reads readBy readAnswer storeWith words
+  reads-bad h = rw h (record { answered = refl; stored = refl })
+
+  pub reads-good : {l : Layout} {a : ReadAnswer} {st : List ℕ} (at : ℕ) → check table ≡ Good l → at + 4 ≡ length table
+      → Gives (lay (readRounds table l 1 at 1 (front message)) 0 store) a st → Reads (reads table message store) store a st
+  unfolding reads readBy readRounds readRow read
+  reads-good {l} at h e g =
+      let root = row-once (reading head) (nodeShape table l) table then-nothing at (front message)
+      ∙ ap (λ i. read (nodeShape table l i) (front message)) (root-number table h at e) in
+      rw (h, good-table table l h .its-shape) (reads-front _ store (rw root at g))
+
+-- ---- the rest
+
+module _ (message : List ℕ) (a : ReadAnswer) where
+  pub rest-done : {p n : ℕ} → a ≡ Done p n → take (length message - p) (drop p message) ≡ restOf message a
+  unfolding restOf
+  rest-done {p} e = rw e (tail message p)
+
+  pub rest-beyond : {p n : ℕ} → a ≡ Done p n → length message < p → [] ≡ restOf message a
+  unfolding restOf
+  rest-beyond {p} e h = rw (e, drop-of-length-le message {i = p} (omega arith))
+
+  pub rest-refused : {e : Refusal} {p n : ℕ} → a ≡ Refused e p n → [] ≡ restOf message a
+  unfolding restOf
+  rest-refused e = rw e
+
+-- a spot that the whole reading reaches stands so many bytes behind the message's front
+reached-behind : (message : List ℕ) (es : List Entry) {o : Outcome} (x : Spot) → Stays (front message) es o → o ≡ reached x → drop (x .place) message ≡ x .bytes
+unfolding past
+reached-behind message es x (reaches {z} n l e s) h =
+    let here : x ≡ record { bytes = drop n message; place = 0 + n } = cc in rw (here, zero-add n)
+reached-behind message es x (refuses l e s) h = let z : _≡_ {A = ℕ} 0 1 = cc in absurd (omega arith)
+
+pub rest-is-left : RestIsLeft
+unfolding reads readBy restOf readAnswer
+rest-is-left table message store n x = go (check table)
+  where
+    go : (c : Checked) → readBy c table (roomOf store) message .ends ≡ reached x → drop (x .place) message ≡ x .bytes
+    go (Good l) e =
+        let run = read (shapeOf table l) (front message) in
+        let fitted = fit (roomOf store) run in
+        let free = fit-reached (roomOf store) run (fitted .made) x (ap (λ o. record { made = fitted .made; ends = o }) e) .1 in
+        reached-behind message (run .made) x (read-stays (shapeOf table l) (front message)) (ap (λ r. r .ends) free)
+    go (Bad e i) h = let z : _≡_ {A = ℕ} 0 1 = cc in absurd (omega arith)
+
+-- ---- no choice
+
+pub one-reading : OneReading
+one-reading table message store x y f g = ap₂ (λ a s. (a, s)) (f .answered ∙ sym (g .answered)) (f .stored ∙ sym (g .stored))
+
+pub one-rest : OneRest
+one-rest message a = by-equation (restOf message a)

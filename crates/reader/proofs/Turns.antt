@@ -1,0 +1,144 @@
+-- What the cycle of calls cites: a call that is followed by more hands its refusal up, or goes on where it arrived; and a loop's end.
+-- Assumes nothing.
+use mathlib.Core.Path.{_≡_, refl, sym, ap, ap₂, _∙_}
+use mathlib.Core.List.{List}
+use Prim.Native.Nat.{ℕ, _+_, _-_, _<_, _≤_}
+use native.Mathlib.Omega.{arith}
+use lib.ListN.{length, take, drop}
+use Rattle.wire.specs.declared.Refusal.{Refusal}
+use Rattle.wire.specs.declared.Layout.{Layout}
+use Rattle.wire.specs.declared.ReadAnswer.{ReadAnswer}
+use Rattle.wire.specs.declared.ReadAnswer.the-variants.{Done, Refused}
+use Rattle.wire.specs.Table.{u16At, shapesAt}
+use Rattle.wire.specs.Reading.{Spot, Outcome, reached, refused, Run, head, past, readThen, reading, read, fit}
+use Rattle.wire.specs.Answers.{roomOf, readAnswer}
+use Rattle.laws.specs.Bounds.{Stays, reaches}
+use Rattle.laws.specs.Tables.{nodeShape}
+use Rattle.laws.proofs.Bounds.{read-stays, row-stays}
+use Rattle.laws.proofs.Children.{times-none, times-more, row-none, row-more}
+use Rattle.laws.proofs.Parts.{tail, length-tail}
+use Rattle.laws.proofs.Runs.{fit-reached}
+use Rattle.table.specs.declared.Stretch.{Stretch}
+use Rattle.reader.specs.declared.Entered.{Entered}
+use Rattle.reader.specs.declared.Entered.the-variants.{On}
+use Rattle.reader.specs.declared.Entered.the-variants as entered
+use Rattle.reader.specs.Lay.{Left, laid, lay, Gives}
+use Rattle.reader.specs.Steps.{spot, readNode, readRow, readRounds, Goes, Enters, goes, stops}
+use Rattle.reader.proofs.Laying.{left, lay-nothing, onBy, lay-then}
+
+-- ---- where a run was left, as an answer
+
+pub gives-refused : {w : Left} {e : Refusal} {p m : ℕ} {s : List ℕ} → w ≡ left (refused e p) m s → Gives w (Refused e p m) s
+unfolding readAnswer
+gives-refused e = rw e (record { answered = refl; stored = refl })
+
+pub gives-done : {w : Left} (x : Spot) {m : ℕ} {s : List ℕ} → w ≡ left (reached x) m s → Gives w (Done (x .place) m) s
+unfolding readAnswer
+gives-done x e = rw e (record { answered = refl; stored = refl })
+
+-- ---- a call, and then more
+
+-- the rest of a part that starts at the place `at`, from the place q on
+abbrev pub from : List ℕ → (at q : ℕ) → List ℕ
+from bs at q = take (length bs - (q - at)) (drop (q - at) bs)
+
+-- a call that began there arrived at the place q, inside the part
+pub record Went (bs : List ℕ) (at q : ℕ) : Type 0 where
+  pub up : at ≤ q
+  pub inside : q - at ≤ length bs
+  pub kept : q + length (from bs at q) ≡ at + length bs
+
+-- f is called, which stays inside its bytes, and g is left
+module _ (f g : Spot → Run) (steady : (x : Spot) → Stays x (f x .made) (f x .ends)) (w : Left) (bs : List ℕ) (at sofar : ℕ) (store : List ℕ)
+    (whole : w ≡ lay (readThen f g (spot bs at)) sofar store) (a : ReadAnswer) (st : List ℕ) (called : Gives (lay (f (spot bs at)) sofar store) a st) where
+  abbrev v : Left
+  v = lay (f (spot bs at)) sofar store
+
+  step : w ≡ onBy (v .ends) v g
+  step = whole ∙ lay-then f g (spot bs at) sofar store
+
+  pub turn-refused : {e : Refusal} {p n : ℕ} → a ≡ Refused e p n → Gives w a st
+  unfolding readAnswer
+  turn-refused {e} {p} {n} h = go (v .ends) (sym (called .answered) ∙ h) step
+    where
+      go : (o : Outcome) → readAnswer o (v .count) ≡ Refused e p n → w ≡ onBy o v g → Gives w a st
+      go (reached y) q s = let z : _≡_ {A = ℕ} 0 1 = cc in absurd (omega arith)
+      go (refused r i) q s = rw s called
+
+  pub turned : {q n : ℕ} → a ≡ Done q n → Went bs at q × (w ≡ lay (g (spot (from bs at q) q)) n st)
+  unfolding readAnswer lay laid past
+  turned {q} {n} h = go (v .ends) refl (sym (called .answered) ∙ h) step
+    where
+      arrived : (y : Spot) → y .place ≡ q → v .count ≡ n → Stays (spot bs at) (f (spot bs at) .made) (reached y) → w ≡ lay (g y) (v .count) (v .store)
+          → Went bs at q × (w ≡ lay (g (spot (from bs at q) q)) n st)
+      arrived y p c (reaches u l e t) s =
+          let here : y .place ≡ at + u = ap (λ z. z .place) e in
+          let back : u ≡ q - at = omega arith in
+          let there : y ≡ spot (from bs at q) q = ap₂ spot (ap (λ z. z .bytes) e ∙ ap (λ k. drop k bs) back ∙ sym (tail bs (q - at))) p in
+          (record { up = omega arith; inside = omega arith; kept = omega (arith, length-tail bs (q - at)) }, s ∙ rw (there, c, ← (called .stored)))
+
+      go : (o : Outcome) → v .ends ≡ o → readAnswer o (v .count) ≡ Done q n → w ≡ onBy o v g → Went bs at q × (w ≡ lay (g (spot (from bs at q) q)) n st)
+      go (refused r i) e j s = let z : _≡_ {A = ℕ} 0 1 = cc in absurd (omega arith)
+      go (reached y) e j s =
+          let run = fit (roomOf store - sofar) (f (spot bs at)) in
+          let free = fit-reached (roomOf store - sofar) (f (spot bs at)) (run .made) y (ap (λ o. record { made = run .made; ends = o }) e) .1 in
+          let p : y .place ≡ q = cc in
+          let c : v .count ≡ n = cc in
+          arrived y p c (rw (ap (λ r. r .ends) free) at (steady (spot bs at))) s
+
+-- ---- one node after the other, and one round after the other
+
+module _ (s : List ℕ) (l : Layout) (at n : ℕ) (w : Left) (bs : List ℕ) (p sofar : ℕ) (store : List ℕ)
+    (whole : w ≡ lay (readRow s l at n (spot bs p)) sofar store) where
+  pub row-end : n ≤ 0 → Gives w (Done p sofar) store
+  unfolding readRow
+  row-end h = gives-done (spot bs p) (whole ∙ rw (row-none (reading head) (nodeShape s l) s at n (spot bs p) h) (lay-nothing (spot bs p) sofar store))
+
+  pub row-first : 0 < n → (i : ℕ) → i ≡ u16At s at → w ≡ lay (readThen (readNode s l i) (readRow s l (at + 2) (n - 1)) (spot bs p)) sofar store
+  unfolding readRow readNode read
+  row-first h i e = whole ∙ rw (row-more (reading head) (nodeShape s l) s at n (spot bs p) h, e)
+
+module _ (s : List ℕ) (l : Layout) (c at n : ℕ) (w : Left) (bs : List ℕ) (p sofar : ℕ) (store : List ℕ)
+    (whole : w ≡ lay (readRounds s l c at n (spot bs p)) sofar store) where
+  pub rounds-end : c ≤ 0 → Gives w (Done p sofar) store
+  unfolding readRounds
+  rounds-end h = gives-done (spot bs p) (whole ∙ rw (times-none (reading head) (readRow s l at n) c (spot bs p) h) (lay-nothing (spot bs p) sofar store))
+
+  pub rounds-first : 0 < c → w ≡ lay (readThen (readRow s l at n) (readRounds s l (c - 1) at n) (spot bs p)) sofar store
+  unfolding readRounds
+  rounds-first h = whole ∙ rw (times-more (reading head) (readRow s l at n) c (spot bs p) h)
+
+-- ---- an item that was entered
+
+module _ {w : Left} {s : List ℕ} {l : Layout} {i : ℕ} {x : Spot} {m : ℕ} {r : Entered} {st : List ℕ} (e : Enters w s l i x m r st) where
+  pub item-goes : {to : Stretch} {u : ℕ} → r ≡ On to u → Goes w s l i x m to u st
+  item-goes {to} {u} h = go (rw h at e)
+    where
+      go : Enters w s l i x m (On to u) st → Goes w s l i x m to u st
+      go (goes g) = g
+
+  pub item-refused : {y : Refusal} → r ≡ entered.Refused y → Gives w (Refused y (x .place) m) st
+  item-refused {y} h = go (rw h at e)
+    where
+      go : Enters w s l i x m (entered.Refused y) st → Gives w (Refused y (x .place) m) st
+      go (stops q) = gives-refused q
+
+module _ {w : Left} {s : List ℕ} {l : Layout} {i : ℕ} {bs : List ℕ} {p m : ℕ} {to : Stretch} {u : ℕ} {st : List ℕ}
+    (g : Goes w s l i (spot bs p) m to u st) where
+  pub item-end : to .rounds ≡ 0 → Gives w (Done (p + u) (m + 1)) st
+  unfolding past
+  item-end e = rounds-end s l (to .rounds) (to .from) (to .width) w (drop u bs) (p + u) (m + 1) st (g .rest) (omega arith)
+
+  pub item-on : {a : ReadAnswer} {left : List ℕ}
+      → Gives (lay (readRounds s l (to .rounds) (to .from) (to .width) (spot (take (length bs - u) (drop u bs)) (p + u))) (m + 1) st) a left → Gives w a left
+  unfolding past
+  item-on h = rw (g .rest) (rw (tail bs u) at h)
+
+-- both stay inside their bytes
+pub node-steady : (s : List ℕ) (l : Layout) (i : ℕ) (x : Spot) → Stays x (readNode s l i x .made) (readNode s l i x .ends)
+unfolding readNode
+node-steady s l i = read-stays (nodeShape s l i)
+
+pub row-steady : (s : List ℕ) (l : Layout) (at n : ℕ) (x : Spot) → Stays x (readRow s l at n x .made) (readRow s l at n x .ends)
+unfolding readRow
+row-steady s l at n = row-stays (shapesAt (nodeShape s l) s at n)

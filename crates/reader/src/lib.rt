@@ -1,0 +1,305 @@
+// Reading a message by a table.
+use table::Stretch;
+use wire::Checked;
+use wire::Item;
+use wire::Layout;
+use wire::ReadAnswer;
+use wire::Refusal;
+ghost use mathlib.Core.Path.{_≡_};
+ghost use mathlib.Core.List.{[], _∷_};
+ghost use Prim.Native.Nat.{_+_, _*_, _/_, _^_, _<_, _≤_};
+ghost use lib.ListN.{length};
+ghost use lib.Seq.{sets};
+ghost use Rattle.wire.specs.Table.{kindOf};
+ghost use Rattle.wire.specs.Reading.{known as knownOf, head as headOf};
+ghost use Rattle.wire.specs.Answers.{reads, restOf};
+ghost use Rattle.laws.specs.Tables.{GoodTable};
+ghost use Rattle.table.specs.Parts.{Falls};
+ghost use Rattle.reader.specs.Lay.{lay, Gives};
+ghost use Rattle.reader.specs.Steps.{spot, readNode, readRow, readRounds, Enters};
+ghost use Rattle.reader.specs.Promise.{Reads};
+
+// What an item leaves to do: the stretch that follows it, behind the bytes that it took; or why it is refused.
+enum Entered {
+    On { to: Stretch, used: usize },
+    Refused { why: Refusal },
+}
+
+// ---- an item's own bytes
+
+// A variant's number is one of the table's.
+fn known(count: usize, got: Item) -> Item
+    ensures { λ r. ⌜ r ≡ knownOf count got ⌝ }
+{
+    let Item::Took {
+        first,
+        second,
+        used,
+    } = got
+    else {
+        return got;
+    };
+    if first < count as u64 {
+        return Item::Took {
+            first,
+            second,
+            used,
+        };
+    }
+    Item::Refused {
+        why: Refusal::Variant,
+    }
+}
+
+// The own bytes of an item with so many children, whose first byte stands at `place`.
+fn own_bytes(number: u8, count: usize, part: &[u8], place: usize) -> Item
+    requires { ⌜ number < 32 ⌝ }
+    requires { ⌜ place + length (now part) < 2 ^ 64 ⌝ }
+    ensures { λ r. ⌜ r ≡ headOf (kindOf number) count place (now (part .entry)) ⌝ }
+{
+    match number {
+        15 => leaf::take_flag(part, Refusal::Option),
+        16 | 17 => varint::take(part, varint::U64::MOST, varint::U64::LAST),
+        18 => Item::Took {
+            first: 0,
+            second: 0,
+            used: 0,
+        },
+        19 => known(count, varint::take_u32(part)),
+        _ => leaf::take(number, part, place),
+    }
+}
+
+// ---- an item
+
+fn put_entry(store: &mut [u64], made: usize, first: u64, second: u64)
+    requires { ⌜ made < length (now store) / 2 ⌝ }
+    ensures { λ _. ⌜ now (store .exit) ≡ sets (now (store .entry)) (2 * made) (first ∷ second ∷ []) ⌝ }
+{
+    let at = 2 * made;
+    store[at] = first;
+    store[at + 1] = second;
+}
+
+// An item's entry, which wants room before the item's bytes are looked at, and what follows.
+fn enter(
+    table: &[u8],
+    l: Layout,
+    node: usize,
+    part: &[u8],
+    place: usize,
+    store: &mut [u64],
+    made: usize,
+) -> Entered
+    requires { ⌜ GoodTable (now table) l ⌝ }
+    requires { ⌜ node < l .nodes ⌝ }
+    requires { ⌜ place + length (now part) < 2 ^ 64 ⌝ }
+    ensures { λ r. ⌜ Enters (lay (readNode (now (table .entry)) l node (spot (now (part .entry)) place)) made (now (store .entry))) (now (table .entry)) l node (spot (now (part .entry)) place) made r (now (store .exit)) ⌝ }
+{
+    if store.len() / 2 <= made {
+        return Entered::Refused { why: Refusal::Room };
+    }
+    let number = table::kind_at(table, l, node);
+    let width = table::child_count(table, l, node);
+    let own = own_bytes(number, width, part, place);
+    match own {
+        Item::Refused { why } => Entered::Refused { why },
+        Item::Took {
+            first,
+            second,
+            used,
+        } => {
+            put_entry(store, made, first, second);
+            let from = table::first_child(table, l, node);
+            let to = table::follow(number, first, from, width);
+            Entered::On { to, used }
+        }
+    }
+}
+
+// ---- the cycle: an item, the rounds of the stretch that follows it, one round
+
+fn read_item(
+    table: &[u8],
+    l: Layout,
+    node: usize,
+    part: &[u8],
+    place: usize,
+    store: &mut [u64],
+    made: usize,
+) -> ReadAnswer
+    requires { ⌜ GoodTable (now table) l ⌝ }
+    requires { ⌜ node < l .nodes ⌝ }
+    requires { ⌜ place + length (now part) < 2 ^ 64 ⌝ }
+    ensures { λ r. ⌜ Gives (lay (readNode (now (table .entry)) l node (spot (now (part .entry)) place)) made (now (store .entry))) r (now (store .exit)) ⌝ }
+{
+    let entered = enter(table, l, node, part, place, store, made);
+    match entered {
+        Entered::Refused { why } => ReadAnswer::Refused {
+            why,
+            place,
+            count: made,
+        },
+        Entered::On { to, used } => {
+            let after = place + used;
+            let next = made + 1;
+            if to.rounds == 0 {
+                return ReadAnswer::Done {
+                    place: after,
+                    count: next,
+                };
+            }
+            read_rounds(
+                table,
+                l,
+                node,
+                to.from,
+                to.width,
+                to.rounds,
+                &part[used..],
+                after,
+                store,
+                next,
+            )
+        }
+    }
+}
+
+fn read_rounds(
+    table: &[u8],
+    l: Layout,
+    node: usize,
+    from: usize,
+    width: usize,
+    rounds: u64,
+    part: &[u8],
+    place: usize,
+    store: &mut [u64],
+    made: usize,
+) -> ReadAnswer
+    requires { ⌜ GoodTable (now table) l ⌝ }
+    requires { ⌜ node ≤ l .nodes ⌝ }
+    requires { ⌜ Falls (now table) from width node ⌝ }
+    requires { ⌜ place + length (now part) < 2 ^ 64 ⌝ }
+    ensures { λ r. ⌜ Gives (lay (readRounds (now (table .entry)) l rounds from width (spot (now (part .entry)) place)) made (now (store .entry))) r (now (store .exit)) ⌝ }
+{
+    let mut rest = part;
+    let mut at = place;
+    let mut sofar = made;
+    let mut left = rounds;
+    while 0 < left {
+        let got = read_stretch(table, l, node, from, width, rest, at, store, sofar);
+        let ReadAnswer::Done {
+            place: next,
+            count: more,
+        } = got
+        else {
+            return got;
+        };
+        let used = next - at;
+        rest = &rest[used..];
+        at = next;
+        sofar = more;
+        left = left - 1;
+    }
+    ReadAnswer::Done {
+        place: at,
+        count: sofar,
+    }
+}
+
+fn read_stretch(
+    table: &[u8],
+    l: Layout,
+    node: usize,
+    from: usize,
+    width: usize,
+    part: &[u8],
+    place: usize,
+    store: &mut [u64],
+    made: usize,
+) -> ReadAnswer
+    requires { ⌜ GoodTable (now table) l ⌝ }
+    requires { ⌜ node ≤ l .nodes ⌝ }
+    requires { ⌜ Falls (now table) from width node ⌝ }
+    requires { ⌜ place + length (now part) < 2 ^ 64 ⌝ }
+    ensures { λ r. ⌜ Gives (lay (readRow (now (table .entry)) l from width (spot (now (part .entry)) place)) made (now (store .entry))) r (now (store .exit)) ⌝ }
+{
+    let mut rest = part;
+    let mut at = place;
+    let mut sofar = made;
+    let mut child = from;
+    let mut left = width;
+    while 0 < left {
+        let c = table::u16_at(table, child);
+        let got = read_item(table, l, c, rest, at, store, sofar);
+        let ReadAnswer::Done {
+            place: next,
+            count: more,
+        } = got
+        else {
+            return got;
+        };
+        let used = next - at;
+        rest = &rest[used..];
+        at = next;
+        sofar = more;
+        child = child + 2;
+        left = left - 1;
+    }
+    ReadAnswer::Done {
+        place: at,
+        count: sofar,
+    }
+}
+
+// ---- the public calls
+
+// Reads a message by a table: where it ends or why it is refused, and the entries made, which stand in front in the store.
+pub fn read(table: &[u8], message: &[u8], store: &mut [u64]) -> ReadAnswer
+    ensures { λ r. ⌜ Reads (reads (now (table .entry)) (now (message .entry)) (now (store .entry))) (now (store .entry)) r (now (store .exit)) ⌝ }
+{
+    let checked = table::check(table);
+    match checked {
+        Checked::Bad { why, place } => ReadAnswer::Refused {
+            why,
+            place,
+            count: 0,
+        },
+        Checked::Good { layout } => {
+            let from = table::root_at(table);
+            read_rounds(
+                table,
+                layout,
+                layout.nodes,
+                from,
+                1,
+                1,
+                message,
+                0,
+                store,
+                0,
+            )
+        }
+    }
+}
+
+// The unread bytes, from the same message and its answer.
+pub fn rest<'a>(message: &'a [u8], answer: ReadAnswer) -> &'a [u8]
+    ensures { λ r. ⌜ now r ≡ restOf (now (message .entry)) answer ⌝ }
+{
+    match answer {
+        ReadAnswer::Done { place, count: _ } => {
+            if place <= message.len() {
+                &message[place..]
+            } else {
+                &message[0..0]
+            }
+        }
+        ReadAnswer::Refused {
+            why: _,
+            place: _,
+            count: _,
+        } => &message[0..0],
+    }
+}

@@ -7,3 +7,4 @@ pub mod Judging
 pub mod Spelling
 pub mod Nodes
 pub mod Promised
+pub mod RoundTrips

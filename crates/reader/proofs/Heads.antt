@@ -1,6 +1,7 @@
 -- What an item's own bytes are, by its kind's number, and of a variant's number.
 -- Assumes nothing.
 use mathlib.Core.Path.{_≡_, refl, sym, ap, _∙_}
+use mathlib.Core.Bool.{true}
 use mathlib.Core.List.{List}
 use Prim.Native.Nat.{ℕ, _+_, _<_, _≤_, _^_}
 use native.Mathlib.Omega.{arith}
@@ -11,13 +12,13 @@ use Rattle.wire.specs.declared.Refusal.the-variants.{Option as BadOption, Varia
 use Rattle.wire.specs.declared.Item.{Item}
 use Rattle.wire.specs.declared.Item.the-variants.{Took, Refused}
 use Rattle.wire.specs.Tests.{pick}
-use Rattle.wire.specs.Shape.{w32, w64}
+use Rattle.wire.specs.Shape.{w32, w64, Leaf, Content, Kind, plain, pooled}
 use Rattle.wire.specs.Numbers.{varint}
 use Rattle.wire.specs.Table.{kinds, kindOf}
 use Rattle.wire.specs.Reading.{flag, known, head}
 use Rattle.laws.proofs.Splits.{by-lt}
 use Rattle.laws.proofs.EachKind.{end, _&_, in-kinds, low-kinds, high-kinds}
-use Rattle.leaf.specs.Leaves.{takeAt}
+use Rattle.leaf.specs.Leaves.{isLeaf, takeAt}
 use Rattle.leaf.proofs.Leaves.{low-leaf, high-leaf}
 
 -- ---- a variant's number
@@ -36,6 +37,10 @@ module _ (n : ℕ) (i : Item) where
   known-not {v} p h = rw (p, le-ltb v n h)
 
 -- ---- by number
+
+-- a number that is none of 15 to 19
+pub outer-kinds : (P : Kind → Type 0) → ((x : Leaf) → P (plain x)) → ((c : Content) → P (pooled c)) → (k : ℕ) → (15 ≤ k → k ≤ 19 → ⊥) → P (kindOf k)
+outer-kinds P p q k outer = by-lt k 15 (low-kinds P p q k) (λ h. by-lt 19 k (high-kinds P p q k) (λ g. absurd (outer h g)))
 
 module _ (n p : ℕ) (s : List ℕ) (k : ℕ) where
   pub head-option : k ≡ 15 → flag BadOption s ≡ head (kindOf k) n p s
@@ -57,7 +62,7 @@ module _ (n p : ℕ) (s : List ℕ) (k : ℕ) where
   -- without children, how many there are does not matter
   pub head-leaf : (15 ≤ k → k ≤ 19 → ⊥) → k < 32 → p + length s < 2 ^ 64 → takeAt k p s ≡ head (kindOf k) n p s
   unfolding takeAt pick head
-  head-leaf outer few fits =
-      by-lt k 15
-      (λ h. rw (lt-ltb (p + length s) (2 ^ 64) fits, low-leaf k h) (low-kinds (λ q. head q 0 p s ≡ head q n p s) (λ x. refl) (λ c. refl) k h))
-      (λ h. by-lt 19 k (λ g. rw (lt-ltb (p + length s) (2 ^ 64) fits, high-leaf k g (omega arith)) (high-kinds (λ q. head q 0 p s ≡ head q n p s) (λ x. refl) (λ c. refl) k g)) (λ g. absurd (outer h g)))
+  head-leaf outer few fits = rw (lt-ltb (p + length s) (2 ^ 64) fits, outer-leaf) (outer-kinds (λ q. head q 0 p s ≡ head q n p s) (λ x. refl) (λ c. refl) k outer)
+    where
+      outer-leaf : isLeaf k ≡ true
+      outer-leaf = by-lt k 15 (λ h. low-leaf k h) (λ h. by-lt 19 k (λ g. high-leaf k g (omega arith)) (λ g. absurd (outer h g)))

@@ -2,21 +2,34 @@
 -- Assumes nothing.
 use mathlib.Core.Path.{_≡_, refl, ap, _∙_}
 use mathlib.Core.List.{List, [], _∷_, _++_}
-use Prim.Native.Nat.{ℕ, _+_, _-_, _*_}
+use Prim.Native.Nat.{ℕ, suc, _+_, _-_, _*_, _≤_, _<_}
 use native.Mathlib.Nat.{add-zero, add-assoc}
 use native.Mathlib.Omega.{arith}
 use lib.ListN.{length, length-append}
 use lib.Seq.{sets, length-sets}
+use Rattle.wire.specs.declared.Refusal.{Refusal}
+use Rattle.wire.specs.declared.Refusal.the-variants.{Room}
 use Rattle.wire.specs.Values.{Entry}
 use Rattle.wire.specs.Reading.{Spot, Outcome, reached, refused, Run, behind, readNothing, readOn, readThen, within, fit}
-use Rattle.wire.specs.Answers.{wordsPer, words, wordsOf, roomOf}
+use Rattle.wire.specs.declared.ReadAnswer.the-variants.{Done, Refused}
+use Rattle.wire.specs.Answers.{readAnswer, wordsPer, words, wordsOf, roomOf}
 use Rattle.laws.proofs.Parts.{sets-append}
 use Rattle.laws.proofs.Runs.{fit-then}
 use Rattle.laws.proofs.Places.{length-words}
-use Rattle.reader.specs.Lay.{Left, laid, lay}
+use Rattle.reader.specs.Lay.{Left, laid, lay, Gives}
 
 abbrev pub left : Outcome → ℕ → List ℕ → Left
 left end n s = record { ends = end; count = n; store = s }
+
+-- ---- where a run was left, as an answer
+
+pub gives-refused : {w : Left} {e : Refusal} {p m : ℕ} {s : List ℕ} → w ≡ left (refused e p) m s → Gives w (Refused e p m) s
+unfolding readAnswer
+gives-refused e = rw e (record { answered = refl; stored = refl })
+
+pub gives-done : {w : Left} (x : Spot) {m : ℕ} {s : List ℕ} → w ≡ left (reached x) m s → Gives w (Done (x .place) m) s
+unfolding readAnswer
+gives-done x e = rw e (record { answered = refl; stored = refl })
 
 -- ---- no entries, and entries in front
 
@@ -62,3 +75,16 @@ lay-then f g x m s = ap (λ r. laid r m s) (fit-then (roomOf s - m) f g x) ∙ g
     go es (reached y) =
         let rest : roomOf s - (m + length es) ≡ roomOf s - m - length es = omega arith in
         laid-behind es (fit (roomOf s - m - length es) (g y)) m s ∙ rw (room-sets s (wordsPer * m) (words es), rest)
+
+-- ---- one entry in front
+
+module _ (e : Entry) (r : Run) (m : ℕ) (s : List ℕ) where
+  pub lay-entry : m < roomOf s → lay (behind (e ∷ []) r) m s ≡ lay r (m + 1) (sets s (wordsPer * m) (words (e ∷ [])))
+  unfolding lay fit within behind
+  lay-entry h =
+      let one : roomOf s - m ≡ suc (roomOf s - (m + 1)) = omega arith in
+      rw (one, room-sets s (wordsPer * m) (words (e ∷ []))) (laid-behind (e ∷ []) (within (roomOf s - (m + 1)) (r .made) (r .ends)) m s)
+
+  pub lay-full : roomOf s ≤ m → lay (behind (e ∷ []) r) m s ≡ left (refused Room (e .place)) m s
+  unfolding lay fit within behind
+  lay-full h = let none : roomOf s - m ≡ 0 = omega arith in rw none (laid-none (refused Room (e .place)) m s)

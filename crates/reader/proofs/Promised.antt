@@ -27,8 +27,10 @@ use Rattle.laws.proofs.Runs.{then-nothing, fit-reached}
 use Rattle.laws.proofs.Tables.{good-table}
 use Rattle.laws.proofs.Unique.{by-equation}
 use Rattle.table.proofs.Stretches.{root-number}
+use Rattle.reader.specs.declared.Way.{Way}
+use Rattle.reader.proofs.Turns.{flat-rounds}
 use Rattle.reader.specs.Lay.{laid, lay, Gives}
-use Rattle.reader.specs.Steps.{readRow, readRounds}
+use Rattle.reader.specs.Steps.{readRow, headed, readRounds, Flat}
 use Rattle.reader.specs.Promise.{Reads, RestIsLeft, OneReading, OneRest}
 
 -- ---- the store
@@ -62,13 +64,13 @@ module _ (table message store : List ℕ) where
   unfolding reads readBy readAnswer storeWith words
   reads-bad h = rw h (record { answered = refl; stored = refl })
 
-  pub reads-good : {l : Layout} {a : ReadAnswer} {st : List ℕ} (at : ℕ) → check table ≡ Good l → at + 4 ≡ length table
-      → Gives (lay (readRounds table l 1 at 1 (front message)) 0 store) a st → Reads (reads table message store) store a st
-  unfolding reads readBy readRounds readRow read
-  reads-good {l} at h e g =
+  pub reads-good : {l : Layout} {way : Way} {a : ReadAnswer} {st : List ℕ} (at : ℕ) → check table ≡ Good l → at + 4 ≡ length table → Flat table l (l .nodes) at 1 way
+      → Gives (lay (readRounds table l 1 (way .headed) (way .from) (way .width) (front message)) 0 store) a st → Reads (reads table message store) store a st
+  unfolding reads readBy readRounds headed readRow read
+  reads-good {l} at h e f g =
       let root = row-once (reading head) (nodeShape table l) table then-nothing at (front message)
       ∙ ap (λ i. read (nodeShape table l i) (front message)) (root-number table h at e) in
-      rw (h, good-table table l h .its-shape) (reads-front _ store (rw root at g))
+      rw (h, good-table table l h .its-shape) (reads-front _ store (rw (← flat-rounds f 1, root) at g))
 
 -- ---- the rest
 

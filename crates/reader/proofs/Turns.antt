@@ -1,6 +1,7 @@
 -- What the cycle of calls cites: a call that is followed by more hands its refusal up, or goes on where it arrived; and a loop's end.
 -- Assumes nothing.
 use mathlib.Core.Path.{_≡_, refl, sym, ap, ap₂, _∙_}
+use mathlib.Core.Bool.{Bool, false}
 use mathlib.Core.List.{List}
 use Prim.Native.Nat.{ℕ, _+_, _-_, _<_, _≤_}
 use native.Mathlib.Omega.{arith}
@@ -12,6 +13,7 @@ use Rattle.wire.specs.declared.ReadAnswer.the-variants.{Done, Refused}
 use Rattle.wire.specs.Table.{u16At, shapesAt}
 use Rattle.wire.specs.Reading.{Spot, Outcome, reached, refused, Run, head, past, readThen, reading, read, fit}
 use Rattle.wire.specs.Answers.{roomOf, readAnswer}
+use Rattle.wire.specs.Walk.{times}
 use Rattle.laws.specs.Bounds.{Stays, reaches}
 use Rattle.laws.specs.Tables.{nodeShape}
 use Rattle.laws.proofs.Bounds.{read-stays, row-stays}
@@ -22,19 +24,10 @@ use Rattle.table.specs.declared.Stretch.{Stretch}
 use Rattle.reader.specs.declared.Entered.{Entered}
 use Rattle.reader.specs.declared.Entered.the-variants.{On}
 use Rattle.reader.specs.declared.Entered.the-variants as entered
+use Rattle.reader.specs.declared.Way.{Way}
 use Rattle.reader.specs.Lay.{Left, laid, lay, Gives}
-use Rattle.reader.specs.Steps.{spot, readNode, readRow, readRounds, Goes, Enters, goes, stops}
-use Rattle.reader.proofs.Laying.{left, lay-nothing, onBy, lay-then}
-
--- ---- where a run was left, as an answer
-
-pub gives-refused : {w : Left} {e : Refusal} {p m : ℕ} {s : List ℕ} → w ≡ left (refused e p) m s → Gives w (Refused e p m) s
-unfolding readAnswer
-gives-refused e = rw e (record { answered = refl; stored = refl })
-
-pub gives-done : {w : Left} (x : Spot) {m : ℕ} {s : List ℕ} → w ≡ left (reached x) m s → Gives w (Done (x .place) m) s
-unfolding readAnswer
-gives-done x e = rw e (record { answered = refl; stored = refl })
+use Rattle.reader.specs.Steps.{spot, readNode, readRow, headed, readRounds, Goes, Enters, goes, stops, Flat}
+use Rattle.reader.proofs.Laying.{left, gives-refused, gives-done, lay-nothing, onBy, lay-then}
 
 -- ---- a call, and then more
 
@@ -88,6 +81,12 @@ module _ (f g : Spot → Run) (steady : (x : Spot) → Stays x (f x .made) (f x 
 
 -- ---- one node after the other, and one round after the other
 
+-- a way that reads the same, so often
+pub flat-rounds : {s : List ℕ} {l : Layout} {i at n : ℕ} {way : Way} → Flat s l i at n way → (c : ℕ)
+    → readRounds s l c false at n ≡ readRounds s l c (way .headed) (way .from) (way .width)
+unfolding readRounds headed
+flat-rounds f c = ap (times (reading head) c) (f .same)
+
 module _ (s : List ℕ) (l : Layout) (at n : ℕ) (w : Left) (bs : List ℕ) (p sofar : ℕ) (store : List ℕ)
     (whole : w ≡ lay (readRow s l at n (spot bs p)) sofar store) where
   pub row-end : n ≤ 0 → Gives w (Done p sofar) store
@@ -98,15 +97,15 @@ module _ (s : List ℕ) (l : Layout) (at n : ℕ) (w : Left) (bs : List ℕ) (p 
   unfolding readRow readNode read
   row-first h i e = whole ∙ rw (row-more (reading head) (nodeShape s l) s at n (spot bs p) h, e)
 
-module _ (s : List ℕ) (l : Layout) (c at n : ℕ) (w : Left) (bs : List ℕ) (p sofar : ℕ) (store : List ℕ)
-    (whole : w ≡ lay (readRounds s l c at n (spot bs p)) sofar store) where
+module _ (s : List ℕ) (l : Layout) (c : ℕ) (h : Bool) (at n : ℕ) (w : Left) (bs : List ℕ) (p sofar : ℕ) (store : List ℕ)
+    (whole : w ≡ lay (readRounds s l c h at n (spot bs p)) sofar store) where
   pub rounds-end : c ≤ 0 → Gives w (Done p sofar) store
   unfolding readRounds
-  rounds-end h = gives-done (spot bs p) (whole ∙ rw (times-none (reading head) (readRow s l at n) c (spot bs p) h) (lay-nothing (spot bs p) sofar store))
+  rounds-end e = gives-done (spot bs p) (whole ∙ rw (times-none (reading head) (headed h (readRow s l at n)) c (spot bs p) e) (lay-nothing (spot bs p) sofar store))
 
-  pub rounds-first : 0 < c → w ≡ lay (readThen (readRow s l at n) (readRounds s l (c - 1) at n) (spot bs p)) sofar store
+  pub rounds-first : 0 < c → w ≡ lay (readThen (headed h (readRow s l at n)) (readRounds s l (c - 1) h at n) (spot bs p)) sofar store
   unfolding readRounds
-  rounds-first h = whole ∙ rw (times-more (reading head) (readRow s l at n) c (spot bs p) h)
+  rounds-first e = whole ∙ rw (times-more (reading head) (headed h (readRow s l at n)) c (spot bs p) e)
 
 -- ---- an item that was entered
 
@@ -127,12 +126,12 @@ module _ {w : Left} {s : List ℕ} {l : Layout} {i : ℕ} {bs : List ℕ} {p m :
     (g : Goes w s l i (spot bs p) m to u st) where
   pub item-end : to .rounds ≡ 0 → Gives w (Done (p + u) (m + 1)) st
   unfolding past
-  item-end e = rounds-end s l (to .rounds) (to .from) (to .width) w (drop u bs) (p + u) (m + 1) st (g .rest) (omega arith)
+  item-end e = rounds-end s l (to .rounds) false (to .from) (to .width) w (drop u bs) (p + u) (m + 1) st (g .rest) (omega arith)
 
-  pub item-on : {a : ReadAnswer} {left : List ℕ}
-      → Gives (lay (readRounds s l (to .rounds) (to .from) (to .width) (spot (take (length bs - u) (drop u bs)) (p + u))) (m + 1) st) a left → Gives w a left
+  pub item-on : {way : Way} {a : ReadAnswer} {left : List ℕ} → Flat s l i (to .from) (to .width) way
+      → Gives (lay (readRounds s l (to .rounds) (way .headed) (way .from) (way .width) (spot (take (length bs - u) (drop u bs)) (p + u))) (m + 1) st) a left → Gives w a left
   unfolding past
-  item-on h = rw (g .rest) (rw (tail bs u) at h)
+  item-on f h = rw (g .rest, flat-rounds f (to .rounds)) (rw (tail bs u) at h)
 
 -- both stay inside their bytes
 pub node-steady : (s : List ℕ) (l : Layout) (i : ℕ) (x : Spot) → Stays x (readNode s l i x .made) (readNode s l i x .ends)

@@ -1,35 +1,59 @@
 -- What follows an item as the code reads it: nodes whose numbers stand one after the other in the table, gone through so often.
 -- Assumes nothing.
 use mathlib.Core.Path.{_≡_}
-use mathlib.Core.List.{List}
-use Prim.Native.Nat.{ℕ, _+_, _≤_, _<_}
+use mathlib.Core.Bool.{Bool, true, false}
+use mathlib.Core.List.{List, [], _∷_}
+use Prim.Native.Nat.{ℕ, _+_, _*_, _≤_, _<_}
 use lib.ListN.{length}
+use lib.Seq.{sets}
 use Rattle.wire.specs.declared.Refusal.{Refusal}
 use Rattle.wire.specs.declared.Layout.{Layout}
-use Rattle.wire.specs.Walk.{times}
-use Rattle.wire.specs.Table.{shapesAt}
-use Rattle.wire.specs.Reading.{Spot, Run, refused, head, past, reading, read}
-use Rattle.wire.specs.Answers.{roomOf}
+use Rattle.wire.specs.Walk.{Follow, times, along, walks}
+use Rattle.wire.specs.Table.{nodeAt, recordOf, shapesAt}
+use Rattle.wire.specs.Reading.{Spot, Run, refused, head, behind, past, reading, read}
+use Rattle.wire.specs.Answers.{wordsPer, roomOf}
 use Rattle.laws.specs.Steps.{row}
-use Rattle.laws.specs.Tables.{nodeShape}
+use Rattle.laws.specs.Tables.{nodeCount, nodeShape, nodeShapes}
 use Rattle.table.specs.declared.Stretch.{Stretch}
 use Rattle.table.specs.Parts.{Falls}
 use Rattle.reader.specs.declared.Entered.{Entered}
 use Rattle.reader.specs.declared.Entered.the-variants.{On, Refused}
+use Rattle.reader.specs.declared.Way.{Way}
+use Rattle.reader.specs.declared.Begun.{Begun}
+use Rattle.reader.specs.declared.Begun.the-variants.{At, Full}
 use Rattle.reader.specs.Lay.{Left, lay}
 
 abbrev pub spot : List ℕ → ℕ → Spot
 spot s p = record { bytes = s; place = p }
 
--- one node, nodes one after the other, and such a row so many times over
+-- one node, and nodes one after the other
 unfoldable pub readNode : List ℕ → Layout → ℕ → Spot → Run
 readNode s l i = read (nodeShape s l i)
 
 unfoldable pub readRow : List ℕ → Layout → (from n : ℕ) → Spot → Run
 readRow s l from n = row (reading head) (shapesAt (nodeShape s l) s from n)
 
-unfoldable pub readRounds : List ℕ → Layout → (rounds from n : ℕ) → Spot → Run
-readRounds s l c from n = times (reading head) c (readRow s l from n)
+-- a step as it stands, or under the entry of a struct
+unfoldable pub headed : Bool → (Spot → Run) → Spot → Run
+headed true f = λ x. behind (record { first = 0; second = 0; place = x .place } ∷ []) (f x)
+headed false f = f
+
+-- such a row so many times over
+unfoldable pub readRounds : List ℕ → Layout → (rounds : ℕ) (h : Bool) (from n : ℕ) → Spot → Run
+readRounds s l c h from n = times (reading head) c (headed h (readRow s l from n))
+
+-- ---- what the code finds
+
+-- the number of a node's kind, and how many children it has
+pub record Found (s : List ℕ) (l : Layout) (i number n : ℕ) : Type 0 where
+  pub kind : number ≡ nodeAt s (recordOf l i) .number
+  pub count : n ≡ nodeCount (nodeAt s (recordOf l i))
+
+-- the stretch that follows an item of the node i
+pub record Leads (s : List ℕ) (l : Layout) (i : ℕ) (way : Follow) (to : Stretch) : Type 0 where
+  pub falls : Falls s (to .from) (to .width) i
+  pub same : (x : Spot) → along (reading head) way (walks (reading head) (nodeShapes s l i (nodeAt s (recordOf l i)))) x
+      ≡ readRounds s l (to .rounds) false (to .from) (to .width) x
 
 -- An item of the node i at the spot x was entered behind m entries: its own bytes are there, the nodes that follow fall,
 -- and what they leave is what the item leaves.
@@ -37,8 +61,19 @@ pub record Goes (whole : Left) (s : List ℕ) (l : Layout) (i : ℕ) (x : Spot) 
   pub room : m < roomOf store
   pub inside : used ≤ length (x .bytes)
   pub falls : Falls s (to .from) (to .width) i
-  pub rest : whole ≡ lay (readRounds s l (to .rounds) (to .from) (to .width) (past used x)) (m + 1) store
+  pub rest : whole ≡ lay (readRounds s l (to .rounds) false (to .from) (to .width) (past used x)) (m + 1) store
 
 pub data Enters (whole : Left) (s : List ℕ) (l : Layout) (i : ℕ) (x : Spot) (m : ℕ) : Entered → List ℕ → Type 0 where
   goes : {to : Stretch} {used : ℕ} {store : List ℕ} → Goes whole s l i x m to used store → Enters whole s l i x m (On to used) store
   stops : {e : Refusal} {store : List ℕ} → whole ≡ record { ends = refused e (x .place); count = m; store = store } → Enters whole s l i x m (Refused e) store
+
+-- a way of n numbers from an offset on, below i, that reads the same
+pub record Flat (s : List ℕ) (l : Layout) (i from n : ℕ) (way : Way) : Type 0 where
+  pub falls : Falls s (way .from) (way .width) i
+  pub same : readRow s l from n ≡ headed (way .headed) (readRow s l (way .from) (way .width))
+
+-- a round's own entry, if it has one, behind the first m
+pub data Begins : Bool → List ℕ → ℕ → Begun → List ℕ → Type 0 where
+  bare : {s : List ℕ} {m : ℕ} → Begins false s m (At m) s
+  put : {s : List ℕ} {m : ℕ} → m < roomOf s → Begins true s m (At (m + 1)) (sets s (wordsPer * m) (0 ∷ 0 ∷ []))
+  full : {s : List ℕ} {m : ℕ} → roomOf s ≤ m → Begins true s m Full s

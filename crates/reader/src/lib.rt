@@ -10,13 +10,15 @@ ghost use mathlib.Core.List.{[], _∷_};
 ghost use Prim.Native.Nat.{_+_, _*_, _/_, _^_, _<_, _≤_};
 ghost use lib.ListN.{length};
 ghost use lib.Seq.{sets};
+ghost use mathlib.Core.Bool.{true};
+ghost use Rattle.wire.specs.Walk.{following, isKnown};
 ghost use Rattle.wire.specs.Table.{kindOf};
 ghost use Rattle.wire.specs.Reading.{known as knownOf, head as headOf};
 ghost use Rattle.wire.specs.Answers.{reads, restOf};
 ghost use Rattle.laws.specs.Tables.{GoodTable};
 ghost use Rattle.table.specs.Parts.{Falls};
 ghost use Rattle.reader.specs.Lay.{lay, Gives};
-ghost use Rattle.reader.specs.Steps.{spot, readNode, readRow, readRounds, Enters};
+ghost use Rattle.reader.specs.Steps.{spot, readNode, readRow, readRounds, Found, Leads, Enters, Flat, Begins};
 ghost use Rattle.reader.specs.Promise.{Reads};
 
 // What an item leaves to do: the stretch that follows it, behind the bytes that it took; or why it is refused.
@@ -51,21 +53,31 @@ fn known(count: usize, got: Item) -> Item
     }
 }
 
-// The own bytes of an item with so many children, whose first byte stands at `place`.
-fn own_bytes(number: u8, count: usize, part: &[u8], place: usize) -> Item
-    requires { ⌜ number < 32 ⌝ }
-    requires { ⌜ place + length (now part) < 2 ^ 64 ⌝ }
+// The own bytes of an item that has children: so many, of which a variant's number names one.
+fn head_bytes(number: u8, count: usize, part: &[u8], place: usize) -> Item
+    requires { ⌜ (15 ≤ number) × (number ≤ 19) ⌝ }
     ensures { λ r. ⌜ r ≡ headOf (kindOf number) count place (now (part .entry)) ⌝ }
 {
     match number {
         15 => leaf::take_flag(part, Refusal::Option),
-        16 | 17 => varint::take(part, varint::U64::MOST, varint::U64::LAST),
         18 => Item::Took {
             first: 0,
             second: 0,
             used: 0,
         },
         19 => known(count, varint::take_u32(part)),
+        _ => varint::take(part, varint::U64::MOST, varint::U64::LAST),
+    }
+}
+
+// The own bytes of an item whose first byte stands at `place`.
+fn own_bytes(number: u8, count: usize, part: &[u8], place: usize) -> Item
+    requires { ⌜ number < 32 ⌝ }
+    requires { ⌜ place + length (now part) < 2 ^ 64 ⌝ }
+    ensures { λ r. ⌜ r ≡ headOf (kindOf number) count place (now (part .entry)) ⌝ }
+{
+    match number {
+        15..=19 => head_bytes(number, count, part, place),
         _ => leaf::take(number, part, place),
     }
 }
@@ -79,6 +91,27 @@ fn put_entry(store: &mut [u64], made: usize, first: u64, second: u64)
     let at = 2 * made;
     store[at] = first;
     store[at + 1] = second;
+}
+
+// What follows an item of a node, with its first word. A leaf's children are not looked for.
+fn after(table: &[u8], l: Layout, node: usize, number: u8, first: u64, width: usize) -> Stretch
+    requires { ⌜ GoodTable (now table) l ⌝ }
+    requires { ⌜ node < l .nodes ⌝ }
+    requires { ⌜ Found (now table) l node number width ⌝ }
+    requires { ⌜ isKnown (following (kindOf number) first) width ≡ true ⌝ }
+    ensures { λ r. ⌜ Leads (now (table .entry)) l node (following (kindOf number) first) r ⌝ }
+{
+    match number {
+        15..=19 => {
+            let from = table::first_child(table, l, node);
+            table::follow(number, first, from, width)
+        }
+        _ => Stretch {
+            rounds: 0,
+            from: 0,
+            width: 0,
+        },
+    }
 }
 
 // An item's entry, which wants room before the item's bytes are looked at, and what follows.
@@ -110,11 +143,67 @@ fn enter(
             used,
         } => {
             put_entry(store, made, first, second);
-            let from = table::first_child(table, l, node);
-            let to = table::follow(number, first, from, width);
+            let to = after(table, l, node, number, first, width);
             Entered::On { to, used }
         }
     }
+}
+
+// ---- rounds
+
+// A stretch as its rounds go: the numbers of a struct's fields where it is that struct alone, whose entry then heads
+// every round, so that no call is made for it.
+struct Way {
+    headed: bool,
+    from: usize,
+    width: usize,
+}
+
+fn flat(table: &[u8], l: Layout, node: usize, from: usize, width: usize) -> Way
+    requires { ⌜ GoodTable (now table) l ⌝ }
+    requires { ⌜ node ≤ l .nodes ⌝ }
+    requires { ⌜ Falls (now table) from width node ⌝ }
+    ensures { λ r. ⌜ Flat (now (table .entry)) l node from width r ⌝ }
+{
+    if width == 1 {
+        let c = table::u16_at(table, from);
+        let number = table::kind_at(table, l, c);
+        if number == 18 {
+            let first = table::first_child(table, l, c);
+            let count = table::child_count(table, l, c);
+            return Way {
+                headed: true,
+                from: first,
+                width: count,
+            };
+        }
+    }
+    Way {
+        headed: false,
+        from,
+        width,
+    }
+}
+
+// A round's front: the entries that are made then, or no room for its entry.
+enum Begun {
+    At { made: usize },
+    Full,
+}
+
+fn begin(headed: bool, store: &mut [u64], made: usize) -> Begun
+    ensures { λ r. ⌜ Begins headed (now (store .entry)) made r (now (store .exit)) ⌝ }
+{
+    if headed {
+        let room = store.len() / 2;
+        if room <= made {
+            return Begun::Full;
+        }
+        put_entry(store, made, 0, 0);
+        let next = made + 1;
+        return Begun::At { made: next };
+    }
+    Begun::At { made }
 }
 
 // ---- the cycle: an item, the rounds of the stretch that follows it, one round
@@ -149,13 +238,15 @@ fn read_item(
                     count: next,
                 };
             }
+            let way = flat(table, l, node, to.from, to.width);
             read_rounds(
                 table,
                 l,
                 node,
-                to.from,
-                to.width,
                 to.rounds,
+                way.headed,
+                way.from,
+                way.width,
                 &part[used..],
                 after,
                 store,
@@ -169,9 +260,10 @@ fn read_rounds(
     table: &[u8],
     l: Layout,
     node: usize,
+    rounds: u64,
+    headed: bool,
     from: usize,
     width: usize,
-    rounds: u64,
     part: &[u8],
     place: usize,
     store: &mut [u64],
@@ -181,14 +273,22 @@ fn read_rounds(
     requires { ⌜ node ≤ l .nodes ⌝ }
     requires { ⌜ Falls (now table) from width node ⌝ }
     requires { ⌜ place + length (now part) < 2 ^ 64 ⌝ }
-    ensures { λ r. ⌜ Gives (lay (readRounds (now (table .entry)) l rounds from width (spot (now (part .entry)) place)) made (now (store .entry))) r (now (store .exit)) ⌝ }
+    ensures { λ r. ⌜ Gives (lay (readRounds (now (table .entry)) l rounds headed from width (spot (now (part .entry)) place)) made (now (store .entry))) r (now (store .exit)) ⌝ }
 {
     let mut rest = part;
     let mut at = place;
     let mut sofar = made;
     let mut left = rounds;
     while 0 < left {
-        let got = read_stretch(table, l, node, from, width, rest, at, store, sofar);
+        let begun = begin(headed, store, sofar);
+        let Begun::At { made: ready } = begun else {
+            return ReadAnswer::Refused {
+                why: Refusal::Room,
+                place: at,
+                count: sofar,
+            };
+        };
+        let got = read_stretch(table, l, node, from, width, rest, at, store, ready);
         let ReadAnswer::Done {
             place: next,
             count: more,
@@ -267,14 +367,16 @@ pub fn read(table: &[u8], message: &[u8], store: &mut [u64]) -> ReadAnswer
             count: 0,
         },
         Checked::Good { layout } => {
-            let from = table::root_at(table);
+            let root = table::root_at(table);
+            let way = flat(table, layout, layout.nodes, root, 1);
             read_rounds(
                 table,
                 layout,
                 layout.nodes,
-                from,
                 1,
-                1,
+                way.headed,
+                way.from,
+                way.width,
                 message,
                 0,
                 store,

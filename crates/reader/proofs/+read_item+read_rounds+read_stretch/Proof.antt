@@ -14,8 +14,11 @@ use Rattle.table.proofs.Stretches.{falls-first, falls-next}
 use Rattle.table.proofs.u16_at.Reads as u16-at-reads
 use Rattle.reader.specs.Lay.{lay}
 use Rattle.reader.specs.Steps.{spot, readRow, readRounds}
+use Rattle.reader.proofs.Rounds.{begun-full, begun-at}
 use Rattle.reader.proofs.Turns.{Went, item-goes, item-refused, item-end, item-on, turn-refused, turned, row-end, row-first, rounds-end, rounds-first, node-steady, row-steady}
+use Rattle.reader.proofs.begin.Reads as begin-reads
 use Rattle.reader.proofs.enter.Reads as enter-reads
+use Rattle.reader.proofs.flat.Reads as flat-reads
 use Rattle.reader.proofs.read_item.Reads as read-item
 use Rattle.reader.proofs.read_item.Kinds as read-item-kinds
 use Rattle.reader.proofs.+read_item+read_rounds+read_stretch.Lts-read_item as read-item-lts
@@ -44,7 +47,7 @@ module _ (t : ℕ) where
   item-at = and 3 read-item-kinds.ps (is 3 read-item-kinds.ps μ-item t) read-item.Pre
 
   abbrev item-calls : read-item-lts.Claims
-  item-calls = (enter-reads.Asked, enter-reads.Learnt, and 3 read-rounds-kinds.ps (falls 3 read-rounds-kinds.ps _<_ μ-rounds t) read-rounds.Pre, read-rounds.Post)
+  item-calls = (enter-reads.Asked, enter-reads.Learnt, flat-reads.Asked, flat-reads.Learnt, and 3 read-rounds-kinds.ps (falls 3 read-rounds-kinds.ps _<_ μ-rounds t) read-rounds.Pre, read-rounds.Post)
 
   item-enter-requires : read-item-lts.Need-enter-requires item-calls item-at read-item.Post
   item-enter-requires c κs = c .before .before .before .before .pre .1
@@ -59,61 +62,80 @@ module _ (t : ℕ) where
   item-returns : read-item-lts.Need-returns item-calls item-at read-item.Post
   item-returns c = item-end (item-goes (c .before .before .before .before .before .before .before .enter .ensures) (c .before .before .before .entered2 .given .1)) (c .if1 .taken)
 
-  item-inside : (c : read-item-lts.Else1 item-calls item-at read-item.Post) → c .before .before .before .entered2 .given .0 .1 .0 ≤ length (c .before .before .before .before .before .before .before .before .before .before .before .before .args .part .now)
-  item-inside c = item-goes (c .before .before .before .before .before .before .before .enter .ensures) (c .before .before .before .entered2 .given .1) .inside
+  item-flat-requires : read-item-lts.Need-flat-requires item-calls item-at read-item.Post
+  item-flat-requires c κs =
+      let s = c .before .before .before .before .before .before .before .before .before .before .before .before in
+      let g = item-goes (c .before .before .before .before .before .before .before .enter .ensures) (c .before .before .before .entered2 .given .1) in
+      (s .pre .1 .0, (omega (arith, s .pre .1 .1 .0), g .falls))
+
+  item-inside : (c : read-item-lts.After-flat item-calls item-at read-item.Post) → c .before .before .before .before .entered2 .given .0 .1 .0 ≤ length (c .before .before .before .before .before .before .before .before .before .before .before .before .before .args .part .now)
+  item-inside c = item-goes (c .before .before .before .before .before .before .before .before .enter .ensures) (c .before .before .before .before .entered2 .given .1) .inside
 
   item-read-rounds-requires : read-item-lts.Need-read-rounds-requires item-calls item-at read-item.Post
   item-read-rounds-requires c κs =
-      let s = c .before .before .before .before .before .before .before .before .before .before .before .before .before .before in
-      let g = item-goes (c .before .before .before .before .before .before .before .before .before .enter .ensures) (c .before .before .before .before .before .entered2 .given .1) in
-      let low : s .args .node * 3 + 1 < s .args .node * 3 + 2 = omega arith in
-      (rw (s .pre .0) at low, (s .pre .1 .0, (omega (arith, s .pre .1 .1 .0), (g .falls, omega (arith, g .inside, s .pre .1 .1 .1, length-tail (s .args .part .now) (c .before .before .before .before .before .entered2 .given .0 .1 .0))))))
+      let s = c .before .before .before .before .before .before .before .before .before .before .before .before .before .before .before in
+      let low : s .args .node * 3 + 1 < s .args .node * 3 + 2 = omega arith in (
+        rw (s .pre .0) at low,
+        (s .pre .1 .0, (omega (arith, s .pre .1 .1 .0), (c .before .before .flat .ensures .falls, omega (arith, item-inside (c .before .before), s .pre .1 .1 .1, length-tail (s .args .part .now) (c .before .before .before .before .before .before .entered2 .given .0 .1 .0))))),
+      )
 
   item-returns-2 : read-item-lts.Need-returns-2 item-calls item-at read-item.Post
   item-returns-2 c = item-refused (c .before .before .before .before .before .enter .ensures) (c .before .entered .given .1)
 
   item-returns-3 : read-item-lts.Need-returns-3 item-calls item-at read-item.Post
-  item-returns-3 c = item-on (item-goes (c .before .before .before .before .before .before .before .before .before .before .before .before .enter .ensures) (c .before .before .before .before .before .before .before .before .entered2 .given .1)) (c .before .before .read-rounds .ensures)
+  item-returns-3 c = item-on (item-goes (c .before .before .before .before .before .before .before .before .before .before .before .before .before .enter .ensures) (c .before .before .before .before .before .before .before .before .before .entered2 .given .1)) (c .before .before .before .before .before .flat .ensures) (c .before .before .read-rounds .ensures)
 
 -- ---- the rounds
 
 abbrev rounds-Inv : read-rounds-lts.InvT-loop
-rounds-Inv table l node from width rounds part place store₀ made rest₀ at₀ sofar₀ left₀ store rest at sofar left =
-    (lay (readRounds table l rounds from width (spot part place)) made store₀ ≡ lay (readRounds table l left from width (spot rest at)) sofar store)
+rounds-Inv table l node rounds headed from width part place store₀ made rest₀ at₀ sofar₀ left₀ store rest at sofar left =
+    (lay (readRounds table l rounds headed from width (spot part place)) made store₀ ≡ lay (readRounds table l left headed from width (spot rest at)) sofar store)
     × (at + length rest ≡ place + length part)
     × (length store ≡ length store₀)
 
 abbrev rounds-μ : read-rounds-lts.MeasureT-loop
-rounds-μ table l node from width rounds part place store₀ made rest₀ at₀ sofar₀ left₀ store rest at sofar left = left
+rounds-μ table l node rounds headed from width part place store₀ made rest₀ at₀ sofar₀ left₀ store rest at sofar left = left
 
 module _ (t : ℕ) where
   abbrev rounds-at : In 3 read-rounds-kinds.ps
   rounds-at = and 3 read-rounds-kinds.ps (is 3 read-rounds-kinds.ps μ-rounds t) read-rounds.Pre
 
   abbrev rounds-calls : read-rounds-lts.Claims
-  rounds-calls = (and 3 read-stretch-kinds.ps (falls 3 read-stretch-kinds.ps _<_ μ-stretch t) read-stretch.Pre, read-stretch.Post)
-
-  rounds-read-stretch-requires : read-rounds-lts.Need-read-stretch-requires rounds-calls rounds-at read-rounds.Post rounds-Inv rounds-μ
-  rounds-read-stretch-requires c κs = let s = c .before .before .before .before .before .before in (omega arith, (s .pre .1 .0, (s .pre .1 .1 .0, (s .pre .1 .1 .1 .0, omega arith))))
+  rounds-calls = (begin-reads.Asked, begin-reads.Learnt, and 3 read-stretch-kinds.ps (falls 3 read-stretch-kinds.ps _<_ μ-stretch t) read-stretch.Pre, read-stretch.Post)
 
   rounds-returns : read-rounds-lts.Need-returns rounds-calls rounds-at read-rounds.Post rounds-Inv rounds-μ
-  rounds-returns c =
-      turn-refused _ _ (row-steady _ _ _ _) _ _ _ _ _ (rounds-first _ _ _ _ _ _ _ _ _ _ (c .before .before .before .before .before .before .before .loop .inv .0) (c .before .before .before .before .before .before .loop-test .taken)) _ _ (c .before .before .before .before .read-stretch .ensures) (c .enum-told .given .1)
+  rounds-returns c = begun-full _ _ _ _ _ (c .before .before .before .before .begin .ensures) (rounds-first _ _ _ _ _ _ _ _ _ _ _ (c .before .before .before .before .before .before .before .loop .inv .0) (c .before .before .before .before .before .before .loop-test .taken)) (c .enum-told .given .1)
 
-  rounds-went : (c : read-rounds-lts.After-got rounds-calls rounds-at read-rounds.Post rounds-Inv rounds-μ) → Went (c .before .before .before .before .before .before .before .loop .rest .now) (c .before .before .before .before .before .before .before .loop .at) (c .got .given .0 .0)
+  rounds-read-stretch-requires : read-rounds-lts.Need-read-stretch-requires rounds-calls rounds-at read-rounds.Post rounds-Inv rounds-μ
+  rounds-read-stretch-requires c κs = let s = c .before .before .before .before .before .before .before .before .before .before .before .before .before in (omega arith, (s .pre .1 .0, (s .pre .1 .1 .0, (s .pre .1 .1 .1 .0, omega arith))))
+
+  rounds-returns-2 : read-rounds-lts.Need-returns-2 rounds-calls rounds-at read-rounds.Post rounds-Inv rounds-μ
+  rounds-returns-2 c =
+      let b = c .before .before .before .before .before .before .before in
+      turn-refused _ _ (row-steady _ _ _ _) _ _ _ _ _
+      (begun-at _ _ _ _ _ (b .before .before .before .before .begin .ensures) (rounds-first _ _ _ _ _ _ _ _ _ _ _ (b .before .before .before .before .before .before .before .loop .inv .0) (b .before .before .before .before .before .before .loop-test .taken)) (b .begun .given .1))
+      _ _ (c .before .before .before .before .read-stretch .ensures) (c .enum-told2 .given .1)
+
+  rounds-went : (c : read-rounds-lts.After-got rounds-calls rounds-at read-rounds.Post rounds-Inv rounds-μ) → Went (c .before .before .before .before .before .before .before .before .before .before .before .before .before .before .loop .rest .now) (c .before .before .before .before .before .before .before .before .before .before .before .before .before .before .loop .at) (c .got .given .0 .0)
   rounds-went c =
-      turned _ _ (row-steady _ _ _ _) _ _ _ _ _ (rounds-first _ _ _ _ _ _ _ _ _ _ (c .before .before .before .before .before .before .before .loop .inv .0) (c .before .before .before .before .before .before .loop-test .taken)) _ _ (c .before .before .before .before .read-stretch .ensures) (c .got .given .1) .0
+      let b = c .before .before .before .before .before .before .before in
+      turned _ _ (row-steady _ _ _ _) _ _ _ _ _
+      (begun-at _ _ _ _ _ (b .before .before .before .before .begin .ensures) (rounds-first _ _ _ _ _ _ _ _ _ _ _ (b .before .before .before .before .before .before .before .loop .inv .0) (b .before .before .before .before .before .before .loop-test .taken)) (b .begun .given .1))
+      _ _ (c .before .before .before .before .read-stretch .ensures) (c .got .given .1) .0
 
   rounds-loop-again : read-rounds-lts.Need-loop-again rounds-calls rounds-at read-rounds.Post rounds-Inv rounds-μ
   rounds-loop-again c =
-      let d = c .before .before in (
-        turned _ _ (row-steady _ _ _ _) _ _ _ _ _ (rounds-first _ _ _ _ _ _ _ _ _ _ (d .before .before .before .before .before .before .before .loop .inv .0) (d .before .before .before .before .before .before .loop-test .taken)) _ _ (d .before .before .before .before .read-stretch .ensures) (d .got .given .1) .1,
+      let d = c .before .before in
+      let b = d .before .before .before .before .before .before .before in (
+        turned _ _ (row-steady _ _ _ _) _ _ _ _ _
+            (begun-at _ _ _ _ _ (b .before .before .before .before .begin .ensures) (rounds-first _ _ _ _ _ _ _ _ _ _ _ (b .before .before .before .before .before .before .before .loop .inv .0) (b .before .before .before .before .before .before .loop-test .taken)) (b .begun .given .1))
+            _ _ (d .before .before .before .before .read-stretch .ensures) (d .got .given .1) .1,
         omega (arith, rounds-went d .kept),
         search needs,
       )
 
-  rounds-returns-2 : read-rounds-lts.Need-returns-2 rounds-calls rounds-at read-rounds.Post rounds-Inv rounds-μ
-  rounds-returns-2 c = rounds-end _ _ _ _ _ _ _ _ _ _ (c .before .loop .inv .0) (c .loop-test .left)
+  rounds-returns-3 : read-rounds-lts.Need-returns-3 rounds-calls rounds-at read-rounds.Post rounds-Inv rounds-μ
+  rounds-returns-3 c = rounds-end _ _ _ _ _ _ _ _ _ _ _ (c .before .loop .inv .0) (c .loop-test .left)
 
 -- ---- a stretch
 
@@ -165,6 +187,21 @@ module _ (t : ℕ) where
 pub +read-item+read-rounds+read-stretch-spec : {M : Type 1} → statement M
 +read-item+read-rounds+read-stretch-spec =
     close μ-item μ-rounds μ-stretch
-    (λ t. read-item-lts.spec (item-calls t) (item-at t) read-item.Post (item-enter-requires t) (λ c. search needs) (λ c. search needs) (item-add-after t) (item-add-next t) (λ c. search needs) (item-returns t) (item-inside t) (item-inside t) (λ c. search needs) (item-read-rounds-requires t) (λ c. search needs) (item-returns-2 t) (λ c. search needs) (item-returns-3 t))
-    (λ t. read-rounds-lts.spec (rounds-calls t) (rounds-at t) read-rounds.Post rounds-Inv rounds-μ (λ c. (refl, refl, refl)) (rounds-read-stretch-requires t) (λ c. search needs) (λ c. search needs) (λ c. search needs) (rounds-returns t) (λ c. rounds-went t (c .before) .up) (λ c. rounds-went t (c .before) .inside) (λ c. rounds-went t (c .before) .inside) (λ c. search needs) (λ c. search needs) (λ c. search needs) (rounds-loop-again t) (λ c. search needs) (rounds-returns-2 t))
-    (λ t. read-stretch-lts.spec (stretch-calls t) (stretch-at t) read-stretch.Post stretch-Inv stretch-μ (λ c. (refl, c .before .before .before .pre .1 .1 .1 .0, refl, refl)) (λ c κs. omega arith) (stretch-read-item-requires t) (λ c. search needs) (λ c. search needs) (λ c. search needs) (stretch-returns t) (λ c. stretch-went t (c .before) .up) (λ c. stretch-went t (c .before) .inside) (λ c. stretch-went t (c .before) .inside) (λ c. search needs) (λ c. omega arith) (λ c. search needs) (λ c. search needs) (stretch-loop-again t) (λ c. search needs) (stretch-returns-2 t))
+    (λ t.
+    read-item-lts.spec (item-calls t) (item-at t) read-item.Post
+    (item-enter-requires t) (λ c. search needs) (λ c. search needs)
+    (item-add-after t) (item-add-next t) (λ c. search needs) (item-returns t)
+    (item-flat-requires t) (item-inside t) (item-inside t) (λ c. search needs) (item-read-rounds-requires t)
+    (λ c. search needs) (item-returns-2 t) (λ c. search needs) (item-returns-3 t))
+    (λ t.
+    read-rounds-lts.spec (rounds-calls t) (rounds-at t) read-rounds.Post rounds-Inv rounds-μ
+    (λ c. (refl, refl, refl)) (λ c κs. search needs) (λ c. search needs) (λ c. search needs) (λ c. search needs) (rounds-returns t)
+    (rounds-read-stretch-requires t) (λ c. search needs) (λ c. search needs) (λ c. search needs) (rounds-returns-2 t)
+    (λ c. rounds-went t (c .before) .up) (λ c. rounds-went t (c .before) .inside) (λ c. rounds-went t (c .before) .inside) (λ c. search needs)
+    (λ c. search needs) (λ c. search needs) (rounds-loop-again t) (λ c. search needs) (rounds-returns-3 t))
+    (λ t.
+    read-stretch-lts.spec (stretch-calls t) (stretch-at t) read-stretch.Post stretch-Inv stretch-μ
+    (λ c. (refl, c .before .before .before .pre .1 .1 .1 .0, refl, refl)) (λ c κs. omega arith) (stretch-read-item-requires t)
+    (λ c. search needs) (λ c. search needs) (λ c. search needs) (stretch-returns t)
+    (λ c. stretch-went t (c .before) .up) (λ c. stretch-went t (c .before) .inside) (λ c. stretch-went t (c .before) .inside) (λ c. search needs)
+    (λ c. omega arith) (λ c. search needs) (λ c. search needs) (stretch-loop-again t) (λ c. search needs) (stretch-returns-2 t))

@@ -1,9 +1,8 @@
 -- `reader::enter` meets its contract, by what it finds: no room, a refusal, or an item that is taken.
 -- Assumes nothing.
-use native.Mathlib.Omega.{arith}
 use borrow.Author.Needs.{needs}
-use Rattle.reader.specs.Steps.{goes, stops}
-use Rattle.reader.proofs.Entering.{number-small, enters-full, enters-refused, follow-known, follow-inside, goes-on}
+use Rattle.reader.specs.Steps.{Found, goes, stops}
+use Rattle.reader.proofs.Entering.{number-small, enters-full, own-known, enters-refused, goes-on}
 use Rattle.reader.proofs.enter.Statement.{statement}
 use Rattle.reader.proofs.enter.Tie as tie
 
@@ -28,25 +27,21 @@ enum-known-own-2 c = search needs
 put-entry-requires : tie.Need-put-entry-requires
 put-entry-requires c κs = search needs
 
-first-child-requires : tie.Need-first-child-requires
-first-child-requires c κs = search needs
-
-follow-requires : tie.Need-follow-requires
-follow-requires c κs = let s = c .before .before .before .before .before .before .before .before .before .before .before .before .before .before .before in (
-  follow-known _ _ _ (s .pre .0) (s .pre .1 .0) _ _ _ _ _ (c .before .before .before .before .before .before .before .before .before .before .kind-at .ensures) (c .before .before .before .before .before .before .before .before .before .child-count .ensures) (c .before .before .before .before .before .before .before .before .own-bytes .ensures) (c .before .before .before .before .before .before .own2 .given .1),
-  omega (arith, follow-inside _ _ _ (s .pre .0) (s .pre .1 .0) _ _ (c .first-child .ensures) (c .before .before .before .before .before .before .before .before .before .child-count .ensures)),
-)
+after-requires : tie.Need-after-requires
+after-requires c κs = let s = c .before .before .before .before .before .before .before .before .before .before .before .before .before .before in
+    let f : Found _ _ _ _ _ = record { kind = c .before .before .before .before .before .before .before .before .before .kind-at .ensures; count = c .before .before .before .before .before .before .before .before .child-count .ensures } in
+    (s .pre .0, (s .pre .1 .0, (f, own-known _ _ _ (s .pre .0) (s .pre .1 .0) _ _ _ _ _ f (c .before .before .before .before .before .before .before .own-bytes .ensures) (c .before .before .before .before .before .own2 .given .1))))
 
 returns-2 : tie.Need-returns-2
-returns-2 c = let s = c .before .before .before .before .before .before .before .before .before .before in stops (enters-refused _ _ _ (s .pre .0) (s .pre .1 .0) _ _ _ _ _ (c .before .before .before .before .before .kind-at .ensures) (c .before .before .before .before .child-count .ensures) (c .before .before .before .own-bytes .ensures) _ _ (c .before .before .before .before .before .before .if1 .left) (c .before .own .given .1))
+returns-2 c = let s = c .before .before .before .before .before .before .before .before .before .before in
+    stops (enters-refused _ _ _ (s .pre .0) (s .pre .1 .0) _ _ _ _ _ (record { kind = c .before .before .before .before .before .kind-at .ensures; count = c .before .before .before .before .child-count .ensures }) (c .before .before .before .own-bytes .ensures) _ _ (c .before .before .before .before .before .before .if1 .left) (c .before .own .given .1))
 
 same-length : tie.Need-same-length
 same-length c = search needs
 
 returns-3 : tie.Need-returns-3
-returns-3 c = let s = c .before .before .before .before .before .before .before .before .before .before .before .before .before .before .before .before in goes
-    (goes-on _ _ _ (s .pre .0) (s .pre .1 .0) _ _ _ _ _ (c .before .before .before .before .before .before .before .before .before .before .before .kind-at .ensures) (c .before .before .before .before .before .before .before .before .before .before .child-count .ensures) (c .before .before .before .before .before .before .before .before .before .own-bytes .ensures) _ _ (c .before .before .before .before .before .before .before .before .before .before .before .before .if1 .left)
-    _ _ _ (c .before .before .before .before .before .before .before .own2 .given .1) (c .before .first-child .ensures) (c .follow .ensures) (c .before .before .before .before .put-entry .ensures))
+returns-3 c = let s = c .before .before .before .before .before .before .before .before .before .before .before .before .before .before .before in
+    goes (goes-on _ _ _ (s .pre .0) (s .pre .1 .0) _ _ _ _ _ (record { kind = c .before .before .before .before .before .before .before .before .before .before .kind-at .ensures; count = c .before .before .before .before .before .before .before .before .before .child-count .ensures }) (c .before .before .before .before .before .before .before .before .own-bytes .ensures) _ _ (c .before .before .before .before .before .before .before .before .before .before .before .if1 .left) _ _ (c .before .before .before .before .before .before .own2 .given .1) (c .after .ensures) (c .before .before .before .put-entry .ensures))
 
 pub enter-spec : {M : Type 1} → statement M
 enter-spec =
@@ -59,8 +54,7 @@ enter-spec =
     enum-known-own
     enum-known-own-2
     put-entry-requires
-    first-child-requires
-    follow-requires
+    after-requires
     returns-2
     same-length
     returns-3)

@@ -1,60 +1,25 @@
--- `reader::own_bytes` meets its contract, by the ranges of the match.
+-- `reader::own_bytes` meets its contract: the kinds with children, and the leaves.
 -- Assumes nothing.
 use mathlib.Core.Logic.{⊎-elim}
-use mathlib.Core.Path.{ap, _∙_}
+use mathlib.Core.Path.{_∙_}
 use native.Mathlib.Omega.{arith}
 use borrow.Author.Needs.{needs}
-use Rattle.wire.specs.Shape.{w64}
-use Rattle.wire.specs.Numbers.{most, last}
-use Rattle.wire.specs.Reading.{known}
-use Rattle.varint.proofs.Reading.{at-width}
-use Rattle.reader.proofs.Heads.{head-option, head-count, head-struct, head-enum, head-leaf}
+use Rattle.reader.proofs.Heads.{head-leaf}
 use Rattle.reader.proofs.own_bytes.Statement.{statement}
 use Rattle.reader.proofs.own_bytes.Tie as tie
 
-take-flag-requires : tie.Need-take-flag-requires
-take-flag-requires c κs = search needs
-
-take-u32-requires : tie.Need-take-u32-requires
-take-u32-requires c κs = search needs
-
-known-requires : tie.Need-known-requires
-known-requires c κs = search needs
+head-bytes-requires : tie.Need-head-bytes-requires
+head-bytes-requires c κs = search needs
 
 take-requires : tie.Need-take-requires
 take-requires c κs = search needs
 
-take-requires-2 : tie.Need-take-requires-2
-take-requires-2 c κs = search needs
-
 returns : tie.Need-returns
-returns c = c .take-flag .ensures ∙ head-option _ _ _ _ (c .before .match .keys1)
+returns c = search needs
 
 returns-2 : tie.Need-returns-2
-returns-2 c = head-struct _ _ _ _ (c .match .keys2)
-
-returns-3 : tie.Need-returns-3
-returns-3 c = c .known .ensures ∙ ap (known _) (c .before .take-u32 .ensures) ∙ head-enum _ _ _ _ (c .before .before .match .keys3)
-
-returns-4 : tie.Need-returns-4
-unfolding most last
-returns-4 c = c .take .ensures ∙ at-width w64 _ ∙ head-count _ _ _ _ (omega arith) (omega arith)
-
-returns-5 : tie.Need-returns-5
-returns-5 c = c .take2 .ensures
+returns-2 c = c .take .ensures
     ∙ head-leaf _ _ _ _ (λ lo hi. ⊎-elim (λ w. omega arith) (λ w. omega (arith, w .1)) (c .before .if1 .came)) (omega arith) (omega arith)
 
 pub own-bytes-spec : {M : Type 1} → statement M
-own-bytes-spec =
-    tie.close
-    (tie.spec
-    take-flag-requires
-    take-u32-requires
-    known-requires
-    take-requires
-    take-requires-2
-    returns
-    returns-2
-    returns-3
-    returns-4
-    returns-5)
+own-bytes-spec = tie.close (tie.spec head-bytes-requires take-requires returns returns-2)

@@ -21,9 +21,13 @@ enum-known-checked-2 c = search needs
 root-at-requires : tie.Need-root-at-requires
 root-at-requires c κs = omega (arith, good-table _ _ (sym (c .before .before .before .check .ensures) ∙ c .before .checked2 .given .1) .children-end)
 
+flat-requires : tie.Need-flat-requires
+flat-requires c κs = let good = sym (c .before .before .before .before .check .ensures) ∙ c .before .before .checked2 .given .1 in
+    (good-table _ _ good, (omega arith, root-falls _ good _ (c .root-at .ensures)))
+
 read-rounds-requires : tie.Need-read-rounds-requires
-read-rounds-requires c κs = let good = sym (c .before .before .before .before .before .check .ensures) ∙ c .before .before .before .checked2 .given .1 in
-    (good-table _ _ good, (omega arith, (root-falls _ good _ (c .before .root-at .ensures), omega arith)))
+read-rounds-requires c κs = let good = sym (c .before .before .before .before .before .before .check .ensures) ∙ c .before .before .before .before .checked2 .given .1 in
+    (good-table _ _ good, (omega arith, (c .before .flat .ensures .falls, omega arith)))
 
 returns : tie.Need-returns
 returns c = reads-bad _ _ _ (sym (c .before .before .before .check .ensures) ∙ c .before .checked .given .1)
@@ -32,7 +36,7 @@ same-length : tie.Need-same-length
 same-length c = search needs
 
 returns-2 : tie.Need-returns-2
-returns-2 c = reads-good _ _ _ _ (sym (c .before .before .before .before .before .before .before .before .check .ensures) ∙ c .before .before .before .before .before .before .checked2 .given .1) (c .before .before .before .before .root-at .ensures) (c .before .before .read-rounds .ensures)
+returns-2 c = reads-good _ _ _ _ (sym (c .before .before .before .before .before .before .before .before .before .check .ensures) ∙ c .before .before .before .before .before .before .before .checked2 .given .1) (c .before .before .before .before .before .root-at .ensures) (c .before .before .before .before .flat .ensures) (c .before .before .read-rounds .ensures)
 
 pub read-spec : {M : Type 1} → statement M
 read-spec =
@@ -42,6 +46,7 @@ read-spec =
     enum-known-checked
     enum-known-checked-2
     root-at-requires
+    flat-requires
     read-rounds-requires
     returns
     same-length

@@ -1,0 +1,5 @@
+pub mod Bits
+pub mod Numbers
+pub mod Fields
+pub mod Puts
+pub mod Sums

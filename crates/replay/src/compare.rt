@@ -1,0 +1,323 @@
+// Asks again what a record asked, and compares the whole of the answer with the record's. HOW.md has
+// the order of a record's parts.
+use crate::field;
+use crate::memory;
+use wire::AskAnswer;
+use wire::ReadAnswer;
+use wire::Refusal;
+use wire::Side;
+use wire::TakeAnswer;
+use wire::WriteAnswer;
+ghost use mathlib.Core.Path.{_≡_};
+ghost use Rattle.wire.specs.Answers.{refusalNumber, readSays, writeSays, askSays, takeSays};
+ghost use Rattle.replay.specs.Told.{sideNumber, Tells, made, which};
+
+// The room for the words of a store or a value list, for the bytes of an output and of an accumulator.
+const WORDS: usize = 512;
+
+const OUT: usize = 1024;
+
+const ROOM: usize = 256;
+
+// What stands in lent memory before a call.
+const BEFORE: u64 = 11936128518282651045;
+
+const BEFORE_BYTE: u8 = 165;
+
+pub enum Kind {
+    Read,
+    Write,
+    Append,
+    Feed,
+    Take,
+}
+
+// The numbers that an answer of any kind begins with: document 01's number, and two more.
+struct Told {
+    number: u64,
+    second: u64,
+    third: u64,
+}
+
+// How many fields a record has.
+pub fn fields(kind: Kind) -> usize {
+    match kind {
+        Kind::Read => 8,
+        Kind::Write => 8,
+        Kind::Append => 5,
+        Kind::Feed => 10,
+        Kind::Take => 8,
+    }
+}
+
+// Document 01's number of a refusal.
+fn number(why: Refusal) -> u64
+    ensures { λ r. ⌜ r ≡ refusalNumber why ⌝ }
+{
+    match why {
+        Refusal::Trailer => 1,
+        Refusal::Record => 2,
+        Refusal::End => 3,
+        Refusal::Varint => 4,
+        Refusal::Bool => 5,
+        Refusal::Char => 6,
+        Refusal::Utf8 => 7,
+        Refusal::Option => 8,
+        Refusal::Variant => 9,
+        Refusal::Room => 10,
+        Refusal::Values => 11,
+        Refusal::Full => 12,
+    }
+}
+
+// Whether the record's first three fields tell the same.
+fn tells(record: &[u8], told: Told) -> bool {
+    if field::number_at(record, 0) != told.number {
+        return false;
+    }
+    if field::number_at(record, 1) != told.second {
+        return false;
+    }
+    field::number_at(record, 2) == told.third
+}
+
+// ---- reading
+
+fn read_told(answer: ReadAnswer) -> Told
+    ensures { λ r. ⌜ Tells (readSays answer) (made answer) r ⌝ }
+{
+    match answer {
+        ReadAnswer::Done { place, count } => Told {
+            number: 0,
+            second: place as u64,
+            third: count as u64,
+        },
+        ReadAnswer::Refused { why, place, count } => Told {
+            number: number(why),
+            second: place as u64,
+            third: count as u64,
+        },
+    }
+}
+
+// Whether reading into a store gives what the record has; `then` is another store like it.
+fn read_over(record: &[u8], store: &mut [u64], then: &mut [u64]) -> bool {
+    let size = field::number_at(record, 5) as usize;
+    if store.len() < size {
+        return false;
+    }
+    let message = field::part(record, 4);
+    let answer = reader::read(field::part(record, 3), message, &mut store[..size]);
+    if !tells(record, read_told(answer)) {
+        return false;
+    }
+    memory::put_words(then, field::part(record, 6));
+    if !memory::same_words(store, then) {
+        return false;
+    }
+    check::same(reader::rest(message, answer), field::part(record, 7))
+}
+
+fn read_agrees(record: &[u8]) -> bool {
+    let mut store = [BEFORE; WORDS];
+    let mut then = [BEFORE; WORDS];
+    read_over(record, &mut store, &mut then)
+}
+
+// ---- writing
+
+fn write_told(answer: WriteAnswer) -> Told
+    ensures { λ r. ⌜ Tells (writeSays answer) 0 r ⌝ }
+{
+    match answer {
+        WriteAnswer::Done { place } => Told {
+            number: 0,
+            second: place as u64,
+            third: 0,
+        },
+        WriteAnswer::Refused { why, place } => Told {
+            number: number(why),
+            second: place as u64,
+            third: 0,
+        },
+    }
+}
+
+// Whether writing to an output gives what the record has; `then` is another output like it, and the
+// words are room for the value list.
+fn write_over(record: &[u8], words: &mut [u64], out: &mut [u8], then: &mut [u8]) -> bool {
+    let list = field::part(record, 4);
+    memory::put_words(words, list);
+    let count = list.len() / 8;
+    let size = field::number_at(record, 6) as usize;
+    if words.len() < count {
+        return false;
+    }
+    if out.len() < size {
+        return false;
+    }
+    let pool = field::part(record, 5);
+    let answer = writer::write(
+        field::part(record, 3),
+        &words[..count],
+        pool,
+        &mut out[..size],
+    );
+    if !tells(record, write_told(answer)) {
+        return false;
+    }
+    memory::put(then, 0, field::part(record, 7));
+    check::same(out, then)
+}
+
+fn write_agrees(record: &[u8]) -> bool {
+    let mut words = [0u64; WORDS];
+    let mut out = [BEFORE_BYTE; OUT];
+    let mut then = [BEFORE_BYTE; OUT];
+    write_over(record, &mut words, &mut out, &mut then)
+}
+
+// ---- the append question
+
+fn side_number(side: Side) -> u64
+    ensures { λ r. ⌜ r ≡ sideNumber side ⌝ }
+{
+    match side {
+        Side::Old => 0,
+        Side::New => 1,
+    }
+}
+
+fn ask_told(answer: AskAnswer) -> Told
+    ensures { λ r. ⌜ Tells (askSays answer) (which answer) r ⌝ }
+{
+    match answer {
+        AskAnswer::Says { yes } => Told {
+            number: 0,
+            second: 0,
+            third: yes as u64,
+        },
+        AskAnswer::Refused { side, why, place } => Told {
+            number: number(why),
+            second: place as u64,
+            third: side_number(side),
+        },
+    }
+}
+
+fn ask_agrees(record: &[u8]) -> bool {
+    let answer = append::appends(field::part(record, 3), field::part(record, 4));
+    tells(record, ask_told(answer))
+}
+
+// ---- the accumulator
+
+// Whether the array is the record's with the part that must have changed, and the message the record's.
+fn holds(record: &[u8], array: &[u8], message: &[u8]) -> bool {
+    let mut then = [0u8; ROOM];
+    memory::put(&mut then, 0, field::part(record, 4));
+    let place = field::number_at(record, 8) as usize;
+    memory::put(&mut then, place, field::part(record, 9));
+    if !check::same(array, &then) {
+        return false;
+    }
+    let mut decoded = [0u8; ROOM];
+    memory::put(&mut decoded, 0, field::part(record, 7));
+    check::same(message, &decoded)
+}
+
+fn feed_agrees(record: &[u8]) -> bool {
+    let mut array = [0u8; ROOM];
+    let mut message = [BEFORE_BYTE; ROOM];
+    memory::put(&mut array, 0, field::part(record, 4));
+    let idx = field::number_at(record, 3) as usize;
+    let chunk = field::part(record, 5);
+    let step = accumulator::feed_lent(&mut array, idx, chunk, &mut message);
+    let answer = step.answer;
+    let used = step.used;
+    let told = Told {
+        number: accumulator::number(answer),
+        second: step.idx as u64,
+        third: step.len as u64,
+    };
+    if !tells(record, told) {
+        return false;
+    }
+    if !check::same(deserializer::rest_at(chunk, used), field::part(record, 6)) {
+        return false;
+    }
+    holds(record, &array, &message)
+}
+
+// ---- taking an item
+
+fn take_told(answer: TakeAnswer, behind: usize) -> Told
+    ensures { λ r. ⌜ Tells (takeSays answer) behind r ⌝ }
+{
+    match answer {
+        TakeAnswer::Done {
+            first: _,
+            second: _,
+            place,
+        } => Told {
+            number: 0,
+            second: place as u64,
+            third: behind as u64,
+        },
+        TakeAnswer::Refused { why, place } => Told {
+            number: number(why),
+            second: place as u64,
+            third: behind as u64,
+        },
+    }
+}
+
+// Whether the answer has the entry that the record has, or none where it has none.
+fn is_entry(record: &[u8], answer: TakeAnswer) -> bool {
+    let entry = field::part(record, 6);
+    match answer {
+        TakeAnswer::Done {
+            first,
+            second,
+            place: _,
+        } => {
+            if entry.len() != 16 {
+                return false;
+            }
+            let mut then = [0u64; 2];
+            memory::put_words(&mut then, entry);
+            memory::same_words(&[first, second], &then)
+        }
+        TakeAnswer::Refused { why: _, place: _ } => entry.len() == 0,
+    }
+}
+
+fn take_agrees(record: &[u8]) -> bool {
+    let message = field::part(record, 4);
+    let place = field::number_at(record, 5) as usize;
+    let answer = deserializer::take_at(field::number_at(record, 3), message, place);
+    let behind = deserializer::place_after(place, answer);
+    if !tells(record, take_told(answer, behind)) {
+        return false;
+    }
+    if !is_entry(record, answer) {
+        return false;
+    }
+    check::same(
+        deserializer::rest_at(message, behind),
+        field::part(record, 7),
+    )
+}
+
+// ---- any record
+
+// Whether the answer to what a record asks is the record's.
+pub fn agrees(kind: Kind, record: &[u8]) -> bool {
+    match kind {
+        Kind::Read => read_agrees(record),
+        Kind::Write => write_agrees(record),
+        Kind::Append => ask_agrees(record),
+        Kind::Feed => feed_agrees(record),
+        Kind::Take => take_agrees(record),
+    }
+}

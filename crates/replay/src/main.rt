@@ -1,0 +1,114 @@
+// Replays recorded answers of the oracle: asks the same again, compares the whole of each answer,
+// and writes a line for each kind of request. HOW.md says how the lists were made.
+mod compare;
+mod field;
+mod memory;
+
+use compare::Kind;
+use libc::STDOUT_FILENO;
+ghost use Prim.Native.Nat.{_+_, _^_, _<_, _≤_};
+
+// A list has fewer bytes than this.
+const ROOM: usize = 131072;
+
+// How many records were replayed, and how many of them agree.
+struct Tally {
+    records: u64,
+    agree: u64,
+}
+
+fn say(text: &[u8]) {
+    io::write_all(STDOUT_FILENO, text);
+}
+
+fn say_number(n: u64) {
+    io::print_decimal(STDOUT_FILENO, n);
+}
+
+fn say_record(text: &[u8], which: u64) {
+    say(b"record ");
+    say_number(which);
+    say(text);
+}
+
+// Whether a record agrees; says so if it doesn't.
+fn try_record(kind: Kind, record: &[u8], which: u64) -> bool {
+    if !field::is_whole(record, compare::fields(kind)) {
+        say_record(b" is not one of this kind\n", which);
+        return false;
+    }
+    if !compare::agrees(kind, record) {
+        say_record(b" differs\n", which);
+        return false;
+    }
+    true
+}
+
+// One more if a record is good.
+fn counted(agree: u64, good: bool) -> u64
+    requires { ⌜ agree + 1 < 2 ^ 64 ⌝ }
+    ensures { λ r. ⌜ r ≤ agree + 1 ⌝ }
+{
+    if good { agree + 1 } else { agree }
+}
+
+// Replays each record of a list.
+fn try_list(kind: Kind, list: &[u8]) -> Tally
+    ensures { λ r. ⌜ r .agree ≤ r .records ⌝ }
+{
+    let mut rest = list;
+    let mut records: u64 = 0;
+    let mut agree: u64 = 0;
+    while 0 < rest.len() {
+        let end = field::end_of(rest);
+        if end < 2 {
+            say(b"the list ends inside a record\n");
+            return Tally { records, agree };
+        }
+        records += 1;
+        let good = try_record(kind, &rest[2..end], records);
+        agree = counted(agree, good);
+        rest = &rest[end..];
+    }
+    Tally { records, agree }
+}
+
+fn say_tally(name: &[u8], tally: Tally) {
+    say(name);
+    say(b": ");
+    say_number(tally.agree);
+    say(b" of ");
+    say_number(tally.records);
+    say(b" agree; ");
+}
+
+// Replays the list of a kind, and says how many agree, of how many bytes it is, and their sum.
+fn replay(kind: Kind, path: &[u8]) {
+    let fd = os::open_read(path);
+    if fd < 0 {
+        os::fail(path);
+        return;
+    }
+    let mut room = [0u8; ROOM];
+    let end = io::read_full(fd, &mut room);
+    libc::close(fd);
+    if end == ROOM {
+        say(path);
+        say(b": larger than the room for a list\n");
+        return;
+    }
+    let list = &room[..end];
+    say_tally(path, try_list(kind, list));
+    say_number(end as u64);
+    say(b" bytes, sum ");
+    io::print_hex(STDOUT_FILENO, memory::sum(list), 8);
+    say(b"\n");
+}
+
+fn main() {
+    replay(Kind::Read, b"reading");
+    replay(Kind::Write, b"writing");
+    replay(Kind::Append, b"appending");
+    replay(Kind::Feed, b"feeding");
+    replay(Kind::Take, b"taking");
+}

@@ -157,18 +157,21 @@ module _ {s t : List ℕ} {l m : Layout} {i j : ℕ} {a : List ℕ} (asked : Ask
           let f : q ≡ j = omega arith in
           rw (e, f) (sym is)
 
--- ---- the roots
+-- ---- an area of zeros, and the roots
 
 module _ {s t : List ℕ} {l m : Layout} (old : GoodTable s l) (new : GoodTable t m) where
-  pub roots-asked : Asked s l (l .root) t m (m .root) (replicate area 0)
-  roots-asked = record {
+  pub fresh-asked : {i j : ℕ} → i < l .nodes → j < m .nodes → Asked s l i t m j (replicate area 0)
+  fresh-asked left right = record {
     old = old;
     new = new;
-    left = old .root-below;
-    right = new .root-below;
+    left = left;
+    right = right;
     room = omega (arith, length-replicate {A = ℕ} area 0);
     sound = record { found = λ i j h k e. none-marked area (i * width + j) (omega (arith, old .few-nodes, new .few-nodes)) e };
   }
+
+  pub roots-asked : Asked s l (l .root) t m (m .root) (replicate area 0)
+  roots-asked = fresh-asked (old .root-below) (new .root-below)
 
   pub appends-alike : {x : ℕ} {free : Bool} → x ≡ Number s l (l .root) → free ≡ isOpenRoot (kindOf x)
       → alike free s l (l .root) t m (m .root) ≡ appends (shapeOf s l) (shapeOf t m)

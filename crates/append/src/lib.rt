@@ -137,10 +137,20 @@ fn compare(
     true
 }
 
+// The same for a caller that keeps no work area.
+pub fn pair_matches(old: &[u8], l: Layout, i: usize, new: &[u8], m: Layout, j: usize) -> bool
+    requires { ⌜ GoodTable (now old) l × GoodTable (now new) m ⌝ }
+    requires { ⌜ (i < l .nodes) × (j < m .nodes) ⌝ }
+    ensures { λ r. ⌜ r ≡ matches (nodeShape (now (old .entry)) l i) (nodeShape (now (new .entry)) m j) ⌝ }
+{
+    let mut area = [0u8; AREA];
+    nodes_match(old, l, i, new, m, j, &mut area)
+}
+
 // ---- the question
 
 // Whether the new one of two good tables appends to the old one.
-fn roots_append(old: &[u8], l: Layout, new: &[u8], m: Layout) -> bool
+pub fn roots_append(old: &[u8], l: Layout, new: &[u8], m: Layout) -> bool
     requires { ⌜ GoodTable (now old) l × GoodTable (now new) m ⌝ }
     ensures { λ r. ⌜ r ≡ appendsOf (shapeOf (now (old .entry)) l) (shapeOf (now (new .entry)) m) ⌝ }
 {

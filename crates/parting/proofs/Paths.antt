@@ -1,0 +1,64 @@
+-- The way down: what was passed stands in front, and the pair that is reached decides the rest.
+-- Assumes nothing.
+use mathlib.Core.Path.{_≡_, refl, sym, ap, _∙_}
+use mathlib.Core.List.{List, [], _∷_, _++_, append-nil, append-assoc}
+use Prim.Native.Nat.{ℕ, suc, _+_, _<_}
+use native.Mathlib.Omega.{arith}
+use lib.ListN.{length, set, length-append}
+use lib.Seq.{sets}
+use Rattle.wire.specs.declared.Layout.{Layout}
+use Rattle.laws.specs.Tables.{GoodTable}
+use Rattle.laws.proofs.Parts.{sets-append}
+use Rattle.parting.specs.declared.Next.{Next}
+use Rattle.parting.specs.declared.Next.the-variants.{Here, Down}
+use Rattle.parting.specs.Pairs.{partingAt, Leads, Follows, Stored}
+
+-- where the way stands: the positions passed are in front of those that follow from the pair, and are stored
+pub record Gone (s : List ℕ) (l : Layout) (t : List ℕ) (m : Layout) (path now : List ℕ) (i j depth : ℕ) : Type 0 where
+  pub front : List ℕ
+  pub deep : depth ≡ length front
+  pub whole : partingAt s l (l .root) t m (m .root) ≡ front ++ partingAt s l i t m j
+  pub stored : now ≡ sets path 0 front
+  pub left : i < l .nodes
+  pub right : j < m .nodes
+  pub room : depth + i < 256
+
+pub gone-start : {s t : List ℕ} {l m : Layout} (path : List ℕ) → GoodTable s l → GoodTable t m → Gone s l t m path path (l .root) (m .root) 0
+gone-start path old new = record {
+  front = [];
+  deep = refl;
+  whole = refl;
+  stored = refl;
+  left = old .root-below;
+  right = new .root-below;
+  room = omega (arith, old .few-nodes, old .root-below);
+}
+
+one-more : (p : List ℕ) (c : ℕ) → length (p ++ c ∷ []) ≡ suc (length p)
+one-more p c = length-append p (c ∷ []) ∙ omega arith
+
+-- one more position is stored behind those in front
+next-word : (p path : List ℕ) (c n : ℕ) → n ≡ length p → set (sets path 0 p) n c ≡ sets path 0 (p ++ c ∷ [])
+next-word p path c n e = let next : n ≡ 0 + length p = omega arith in rw next (sets-append path 0 p (c ∷ []))
+
+-- after what the pair's search told
+module _ {s t : List ℕ} {l m : Layout} {path now : List ℕ} {i j depth : ℕ} {r : Next} (here : Gone s l t m path now i j depth) (told : Follows s l i t m j r) where
+  pub next-lower : {c p q : ℕ} → r ≡ Down c p q → p < i
+  next-lower e = let leads : Leads s l i t m j _ _ _ = rw e at told in leads .lower
+
+  pub gone-next : {c p q : ℕ} → r ≡ Down c p q → Gone s l t m path (set now depth c) p q (depth + 1)
+  gone-next {c} e = let leads : Leads s l i t m j c _ _ = rw e at told in record {
+    front = here .front ++ c ∷ [];
+    deep = omega (arith, here .deep, one-more (here .front) c);
+    whole = here .whole ∙ ap (λ p. here .front ++ p) (leads .on) ∙ sym (append-assoc (here .front) (c ∷ []) _);
+    stored = rw (here .stored) (next-word (here .front) path c depth (here .deep));
+    left = omega (arith, here .left, leads .lower);
+    right = omega (arith, here .right, leads .below);
+    room = omega (arith, here .room, leads .lower);
+  }
+
+  pub gone-all : r ≡ Here → Stored (partingAt s l (l .root) t m (m .root)) path depth now
+  gone-all e =
+      let ends : partingAt s l i t m j ≡ [] = rw e at told in
+      let all : partingAt s l (l .root) t m (m .root) ≡ here .front = here .whole ∙ ap (λ p. here .front ++ p) ends ∙ append-nil (here .front) in
+      rw all (record { deep = here .deep; stored = here .stored })

@@ -1,0 +1,137 @@
+-- A pair of nodes in one step, and its children in one turn each, up to the first pair that does not match.
+-- Assumes nothing.
+use mathlib.Core.Path.{_≡_, sym, _∙_, ap₂}
+use mathlib.Core.Bool.{Bool, true, false}
+use mathlib.Core.List.{List, [], _∷_}
+use Prim.Native.Nat.{ℕ, zero, suc, _+_, _-_, _<_, _≤_}
+use native.Mathlib.Nat.{not-suc-le-zero}
+use native.Mathlib.Omega.{arith}
+use lib.ListN.{length}
+use lib.Dec.{eqb}
+use borrow.Author.Tests.{ne-eqb, eq-eqb}
+use Rattle.wire.specs.declared.Layout.{Layout}
+use Rattle.wire.specs.Tests.{pick, given}
+use Rattle.wire.specs.Shape.{Shape}
+use Rattle.wire.specs.Table.{u16At, Node, nodeAt, recordOf, shapesAt}
+use Rattle.wire.specs.Append.{matches}
+use Rattle.laws.specs.Tables.{nodeFirst, nodeCount, nodeShape, nodeShapes, GoodNode, GoodTable}
+use Rattle.laws.proofs.Splits.{of-pick, of-given}
+use Rattle.laws.proofs.Children.{shapes-none, shapes-more}
+use Rattle.laws.proofs.Numbering.{same-number}
+use Rattle.table.specs.Parts.{Falls}
+use Rattle.table.proofs.Stretches.{falls-first, falls-next, node-falls}
+use Rattle.parting.specs.Parting.{parting, partingOf}
+use Rattle.parting.specs.Pairs.{partingAt, Pair, Leads}
+
+-- ---- children
+
+module _ (f g : ℕ → Shape) (s t : List ℕ) where
+  -- n old children and k new ones, from a position on
+  abbrev pub Tail : (n k from at c : ℕ) → List ℕ
+  Tail n k from at c = partingOf c (shapesAt f s from n) (shapesAt g t at k)
+
+  pub tail-old : (n k from at c : ℕ) → n ≤ 0 → Tail n k from at c ≡ []
+  unfolding partingOf
+  tail-old n k from at c h = rw (shapes-none f s from n h)
+
+  pub tail-new : (n k from at c : ℕ) → 0 < n → k ≤ 0 → Tail n k from at c ≡ []
+  unfolding partingOf
+  tail-new n k from at c h e = rw (shapes-more f s from n h, shapes-none g t at k e)
+
+  module _ (n k from at c : ℕ) (some : 0 < n) (also : 0 < k) where
+    pub tail-apart : false ≡ matches (f (u16At s from)) (g (u16At t at)) → Tail n k from at c ≡ c ∷ parting (f (u16At s from)) (g (u16At t at))
+    unfolding partingOf pick
+    tail-apart e = rw (shapes-more f s from n some, shapes-more g t at k also, ← e)
+
+    pub tail-next : true ≡ matches (f (u16At s from)) (g (u16At t at)) → Tail (n - 1) (k - 1) (from + 2) (at + 2) (c + 1) ≡ Tail n k from at c
+    unfolding partingOf pick
+    tail-next e = rw (shapes-more f s from n some, shapes-more g t at k also, ← e)
+
+-- ---- two nodes
+
+-- where the search among the children stands: those that are left decide
+pub record Left (s : List ℕ) (l : Layout) (i : ℕ) (t : List ℕ) (m : Layout) (j : ℕ) (n k from at c : ℕ) : Type 0 where
+  pub same : Tail (nodeShape s l) (nodeShape t m) s t n k from at c ≡ partingAt s l i t m j
+  pub olds : Falls s from n i
+  pub news : Falls t at k j
+
+abbrev Number : List ℕ → Layout → ℕ → ℕ
+Number s l i = nodeAt s (recordOf l i) .number
+
+module _ {s t : List ℕ} {l m : Layout} {i j : ℕ} {r q : Node} (g : GoodNode s l i r) (h : GoodNode t m j q) where
+  parting-nodes : partingAt s l i t m j ≡ given (eqb (r .number) (q .number)) (λ _. partingOf 0 (nodeShapes s l i r) (nodeShapes t m j q)) []
+  unfolding parting
+  parting-nodes = rw (g .its-shape, h .its-shape, same-number (r .number) (q .number) (g .is-kind) (h .is-kind))
+
+-- the first things that a search finds: kinds' numbers x and y
+module _ {s t : List ℕ} {l m : Layout} {i j x y : ℕ} (pair : Pair s l i t m j) (old : x ≡ Number s l i) (new : y ≡ Number t m j) where
+  pub other-kinds : (x ≡ y → ⊥) → partingAt s l i t m j ≡ []
+  unfolding given
+  other-kinds ne =
+      parting-nodes (pair .old .node-good i (pair .left)) (pair .new .node-good j (pair .right)) ∙ rw (← old, ← new, ne-eqb x y ne)
+
+  pub left-start : {n k from at : ℕ} → x ≡ y → n ≡ nodeCount (nodeAt s (recordOf l i)) → k ≡ nodeCount (nodeAt t (recordOf m j))
+      → from ≡ nodeFirst l i (nodeAt s (recordOf l i)) → at ≡ nodeFirst m j (nodeAt t (recordOf m j)) → Left s l i t m j n k from at 0
+  unfolding given
+  left-start e olds news f g = record {
+    same =
+        rw (olds, news, f, g)
+        (sym (parting-nodes (pair .old .node-good i (pair .left)) (pair .new .node-good j (pair .right))
+        ∙ rw (eq-eqb (Number s l i) (Number t m j) (sym old ∙ e ∙ new))));
+    olds = rw (f, olds) (node-falls (pair .old) (pair .left));
+    news = rw (g, news) (node-falls (pair .new) (pair .right));
+  }
+
+-- no child is left
+module _ {s t : List ℕ} {l m : Layout} {i j n k from at c : ℕ} (here : Left s l i t m j n k from at c) where
+  pub left-old : n ≤ 0 → partingAt s l i t m j ≡ []
+  left-old h = sym (here .same) ∙ tail-old _ _ s t n k from at c h
+
+  pub left-new : 0 < n → k ≤ 0 → partingAt s l i t m j ≡ []
+  left-new h e = sym (here .same) ∙ tail-new _ _ s t n k from at c h e
+
+-- the turn of the old node p and the new node q
+module _ {s t : List ℕ} {l m : Layout} {i j n k from at c p q : ℕ} {is : Bool} (here : Left s l i t m j n k from at c) (some : 0 < n) (also : 0 < k)
+    (old : p ≡ u16At s from) (new : q ≡ u16At t at) (told : is ≡ matches (nodeShape s l p) (nodeShape t m q)) where
+  turn : is ≡ matches (nodeShape s l (u16At s from)) (nodeShape t m (u16At t at))
+  turn = told ∙ ap₂ (λ x y. matches (nodeShape s l x) (nodeShape t m y)) old new
+
+  pub left-apart : is ≡ false → Leads s l i t m j c p q
+  left-apart e = rw (old, new) (record {
+    on = sym (here .same) ∙ tail-apart _ _ s t n k from at c some also (sym e ∙ turn);
+    lower = falls-first (here .olds) some;
+    below = falls-first (here .news) also;
+  })
+
+  pub left-next : is ≡ true → Left s l i t m j (n - 1) (k - 1) (from + 2) (at + 2) (c + 1)
+  left-next e = record {
+    same = tail-next _ _ s t n k from at c some also (sym e ∙ turn) ∙ here .same;
+    olds = falls-next (here .olds) some;
+    news = falls-next (here .news) also;
+  }
+
+-- ---- how far down
+
+module _ (s t : List ℕ) (l m : Layout) (i j : ℕ) (short : (p q : ℕ) → p < i → q < j → length (partingAt s l p t m q) ≤ p) where
+  tail-short : (n k from at c : ℕ) → Falls s from n i → Falls t at k j → length (Tail (nodeShape s l) (nodeShape t m) s t n k from at c) ≤ i
+  unfolding partingOf shapesAt
+  tail-short zero k from at c f g = omega arith
+  tail-short (suc n) zero from at c f g = omega arith
+  tail-short (suc n) (suc k) from at c f g =
+      let p = falls-first f (omega arith) in
+      let q = falls-first g (omega arith) in
+      let e : suc n - 1 ≡ n = omega arith in
+      let d : suc k - 1 ≡ k = omega arith in
+      of-pick (λ (h : Unit {0} → List ℕ). length (h tt) ≤ i) (matches (nodeShape s l (u16At s from)) (nodeShape t m (u16At t at))) _ _
+      (λ _. tail-short n k (from + 2) (at + 2) (c + 1) (rw e at (falls-next f (omega arith))) (rw d at (falls-next g (omega arith))))
+      (λ _. omega (arith, short (u16At s from) (u16At t at) p q))
+
+-- the way down has at most as many steps as the old node's number, which falls at each
+module _ {s t : List ℕ} {l m : Layout} (old : GoodTable s l) (new : GoodTable t m) where
+  pub short-way : (n i j : ℕ) → i < n → i < l .nodes → j < m .nodes → length (partingAt s l i t m j) ≤ i
+  short-way zero i j h a b = absurd (not-suc-le-zero h)
+  short-way (suc n) i j h a b =
+      rw (parting-nodes (old .node-good i a) (new .node-good j b))
+      (of-given (λ p. length p ≤ i) _ _ _
+      (λ _. tail-short s t l m i j (λ p q x y. short-way n p q (omega arith) (omega arith) (omega arith)) _ _ _ _ 0 (node-falls old a) (node-falls new b))
+      (λ _. omega arith))

@@ -1,0 +1,127 @@
+// Where two tables part, when the append question says no.
+use wire::Checked;
+use wire::Layout;
+use wire::Refusal;
+use wire::Side;
+ghost use mathlib.Core.Path.{_≡_};
+ghost use Rattle.wire.specs.declared.Checked.the-variants.{Good};
+ghost use Rattle.wire.specs.Table.{check as checkOf};
+ghost use Rattle.laws.specs.Tables.{GoodTable};
+ghost use Rattle.parting.specs.Parting.{parted};
+ghost use Rattle.parting.specs.Pairs.{partingAt, Pair, Follows, Stored};
+ghost use Rattle.parting.specs.Promise.{Parts};
+
+// How many positions a path has room for: as many as a table has nodes, and each is of a node below the last.
+const ROOM: usize = 256;
+
+// The new table only appends; or they part so many positions down; or one of them is not good, why and at which node.
+pub enum Parting {
+    Appends,
+    Apart {
+        depth: usize,
+    },
+    Refused {
+        side: Side,
+        why: Refusal,
+        place: usize,
+    },
+}
+
+// Where the way goes on from a pair of nodes: nowhere, or to their children p and q at a position.
+enum Next {
+    Here,
+    Down { position: u64, p: usize, q: usize },
+}
+
+// The first pair of children that doesn't match, where the kinds are the same.
+fn next_pair(old: &[u8], l: Layout, i: usize, new: &[u8], m: Layout, j: usize) -> Next
+    requires { ⌜ Pair (now old) l i (now new) m j ⌝ }
+    ensures { λ r. ⌜ Follows (now (old .entry)) l i (now (new .entry)) m j r ⌝ }
+{
+    let number = table::kind_at(old, l, i);
+    let other = table::kind_at(new, m, j);
+    if number != other {
+        return Next::Here;
+    }
+    let mut olds = table::child_count(old, l, i);
+    let mut news = table::child_count(new, m, j);
+    let mut from = table::first_child(old, l, i);
+    let mut at = table::first_child(new, m, j);
+    let mut position = 0u64;
+    while 0 < olds {
+        if news == 0 {
+            return Next::Here;
+        }
+        let p = table::u16_at(old, from);
+        let q = table::u16_at(new, at);
+        if !append::pair_matches(old, l, p, new, m, q) {
+            return Next::Down { position, p, q };
+        }
+        olds = olds - 1;
+        news = news - 1;
+        from = from + 2;
+        at = at + 2;
+        position = position + 1;
+    }
+    Next::Here
+}
+
+// The positions from the roots down, and how many there are.
+fn go_down(old: &[u8], l: Layout, new: &[u8], m: Layout, path: &mut [u64; ROOM]) -> usize
+    requires { ⌜ GoodTable (now old) l × GoodTable (now new) m ⌝ }
+    ensures { λ r. ⌜ Stored (partingAt (now (old .entry)) l (l .root) (now (new .entry)) m (m .root)) (now (path .entry)) r (now (path .exit)) ⌝ }
+{
+    let mut i = l.root;
+    let mut j = m.root;
+    let mut depth = 0;
+    loop {
+        let Next::Down { position, p, q } = next_pair(old, l, i, new, m, j) else {
+            return depth;
+        };
+        path[depth] = position;
+        depth = depth + 1;
+        i = p;
+        j = q;
+    }
+}
+
+// The answer where both tables are good.
+fn of_good(old: &[u8], l: Layout, new: &[u8], m: Layout, path: &mut [u64; ROOM]) -> Parting
+    requires { ⌜ (checkOf (now old) ≡ Good l) × (checkOf (now new) ≡ Good m) ⌝ }
+    ensures { λ r. ⌜ Parts (parted (now (old .entry)) (now (new .entry))) (now (path .entry)) r (now (path .exit)) ⌝ }
+{
+    if append::roots_append(old, l, new, m) {
+        return Parting::Appends;
+    }
+    let depth = go_down(old, l, new, m, path);
+    Parting::Apart { depth }
+}
+
+// The answer where the old table is good.
+fn after_old(old: &[u8], l: Layout, new: &[u8], path: &mut [u64; ROOM]) -> Parting
+    requires { ⌜ checkOf (now old) ≡ Good l ⌝ }
+    ensures { λ r. ⌜ Parts (parted (now (old .entry)) (now (new .entry))) (now (path .entry)) r (now (path .exit)) ⌝ }
+{
+    match table::check(new) {
+        Checked::Bad { why, place } => Parting::Refused {
+            side: Side::New,
+            why,
+            place,
+        },
+        Checked::Good { layout } => of_good(old, l, new, layout, path),
+    }
+}
+
+// Where the new table parts from the old one: the positions from the roots down stand in the path's first words, and no other word changes; none where the new one only appends, or one of them is not good.
+pub fn parts(old: &[u8], new: &[u8], path: &mut [u64; ROOM]) -> Parting
+    ensures { λ r. ⌜ Parts (parted (now (old .entry)) (now (new .entry))) (now (path .entry)) r (now (path .exit)) ⌝ }
+{
+    match table::check(old) {
+        Checked::Bad { why, place } => Parting::Refused {
+            side: Side::Old,
+            why,
+            place,
+        },
+        Checked::Good { layout } => after_old(old, layout, new, path),
+    }
+}

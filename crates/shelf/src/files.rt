@@ -1,0 +1,95 @@
+// A file named by a word of the command, whole or not at all.
+use crate::words::say;
+use crate::words::say_number;
+ghost use mathlib.Core.Path.{_≡_};
+ghost use lib.ListN.{length};
+ghost use Rattle.io.specs.Counts.{Counts};
+
+// The room for a message, a stream, a pool or an output.
+pub const LARGE: usize = 262144;
+
+pub fn large_room() -> [u8; LARGE]
+    ensures { λ r. ⌜ 262144 ≡ length r ⌝ }
+{
+    [0; LARGE]
+}
+
+// The words of 16,384 entries: the room for a store or a value list.
+pub const WORDS: usize = 32768;
+
+pub fn words_room() -> [u64; WORDS]
+    ensures { λ r. ⌜ 32768 ≡ length r ⌝ }
+{
+    [0; WORDS]
+}
+
+// Whether a file is there whole, and how many bytes it has.
+pub struct Loaded {
+    pub whole: bool,
+    pub len: usize,
+}
+
+// Whether a file's end is reached; says what else there is.
+fn is_ended(fd: i32, path: &[u8], room: usize) -> bool {
+    let mut next = [0u8; 1];
+    let more = libc::read(fd, &mut next);
+    if more < 0 {
+        os::fail(path);
+        return false;
+    }
+    if 0 < more {
+        say(path);
+        say(b": larger than the room of ");
+        say_number(room as u64);
+        say(b" bytes\n");
+        return false;
+    }
+    true
+}
+
+fn load_from(path: &[u8], room: &mut [u8]) -> Loaded
+    ensures { λ r. ⌜ Counts (r .len) (now (room .exit)) ⌝ }
+{
+    let fd = os::open_read(path);
+    if fd < 0 {
+        os::fail(path);
+        return Loaded {
+            whole: false,
+            len: 0,
+        };
+    }
+    let len = io::read_full(fd, room);
+    let whole = is_ended(fd, path, room.len());
+    libc::close(fd);
+    Loaded { whole, len }
+}
+
+// The file that the command's word i names, in front of the room.
+pub fn load(i: usize, room: &mut [u8]) -> Loaded
+    ensures { λ r. ⌜ Counts (r .len) (now (room .exit)) ⌝ }
+{
+    let mut path = io::buffer();
+    let n = os::arg(i, &mut path);
+    load_from(&path[..n], room)
+}
+
+// Puts bytes into the file that the command's word i names; says whether that is done.
+pub fn save(i: usize, bytes: &[u8]) {
+    let mut path = io::buffer();
+    let n = os::arg(i, &mut path);
+    let name = &path[..n];
+    let fd = os::open_overwrite(name);
+    if fd < 0 {
+        return os::fail(name);
+    }
+    let done = io::write_all(fd, bytes);
+    let closed = libc::close(fd);
+    if !done || closed < 0 {
+        return os::fail(name);
+    }
+    say(b"wrote ");
+    say_number(bytes.len() as u64);
+    say(b" bytes to ");
+    say(name);
+    say(b"\n");
+}

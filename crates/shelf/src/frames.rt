@@ -1,0 +1,98 @@
+// A recorded stream, fed to the accumulator chunk by chunk.
+use crate::files;
+use crate::words::front;
+use crate::words::say;
+use crate::words::say_bytes;
+use crate::words::say_count;
+use crate::words::say_number;
+use accumulator::Accumulator;
+use accumulator::Fed;
+use wire::FeedAnswer;
+ghost use Prim.Native.Nat.{_+_, _^_, _≤_, _<_};
+ghost use lib.ListN.{length};
+ghost use Rattle.wire.specs.Frames.{room};
+
+// So many bytes of the stream are fed at a time.
+const CHUNK: usize = 64;
+
+fn say_refused(what: &[u8], place: usize) {
+    say(b"refused: ");
+    say(what);
+    say(b", at byte ");
+    say_number(place as u64);
+    say(b"\n");
+}
+
+// A frame's message, which ends before a place of the stream.
+fn say_frame(fed: Fed, place: usize) {
+    let message = fed.message;
+    say(b"frame up to byte ");
+    say_number(place as u64);
+    say(b":");
+    say_bytes(front(&message, fed.len));
+    say(b"\n");
+}
+
+fn say_fed(fed: Fed, place: usize) {
+    let answer = fed.answer;
+    match answer {
+        FeedAnswer::Consumed => {}
+        FeedAnswer::OverFull => say_refused(b"21, over-full", place),
+        FeedAnswer::BadFrame => say_refused(b"22, bad frame", place),
+        FeedAnswer::Frame => say_frame(fed, place),
+        FeedAnswer::BadState => say_refused(b"24, bad state", place),
+    }
+}
+
+// Feeds the chunk that begins at a place of the stream until nothing is left of it.
+fn feed_all(state: Accumulator, chunk: &[u8], place: usize) -> Accumulator
+    requires { ⌜ (state .idx ≤ room) × (place + length (now chunk) < 2 ^ 64) ⌝ }
+    ensures { λ r. ⌜ r .idx ≤ room ⌝ }
+{
+    let mut state = state;
+    let mut left = chunk;
+    let mut at = place;
+    while 0 < left.len() {
+        let fed = accumulator::feed(state, left);
+        let rest = accumulator::rest(left, fed);
+        at = at + (left.len() - rest.len());
+        say_fed(fed, at);
+        left = rest;
+        state = fed.state;
+    }
+    state
+}
+
+// Where the chunk that begins at a place ends.
+fn cut(at: usize, end: usize) -> usize
+    requires { ⌜ at < end ⌝ }
+    ensures { λ r. ⌜ (at < r) × (r ≤ end) ⌝ }
+{
+    if end - at < CHUNK { end } else { at + CHUNK }
+}
+
+fn show(stream: &[u8]) {
+    let mut state = Accumulator::new();
+    let mut at = 0;
+    while at < stream.len() {
+        let to = cut(at, stream.len());
+        let next = feed_all(state, &stream[at..to], at);
+        state = next;
+        at = to;
+    }
+    if 0 < state.idx {
+        say_count(state.idx as u64, b"byte");
+        say(b" of an unfinished frame at the end\n");
+    }
+}
+
+// shelf frames FILE
+pub fn run() {
+    let mut room = files::large_room();
+    let loaded = files::load(2, &mut room);
+    let whole = loaded.whole;
+    let len = loaded.len;
+    if whole {
+        show(&room[..len]);
+    }
+}

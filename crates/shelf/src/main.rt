@@ -1,0 +1,83 @@
+// What a planner runs: shelf table, read, append, frames and write, each over files. Without such words it says how to use it.
+mod apart;
+mod files;
+mod frames;
+mod listing;
+mod names;
+mod parts;
+mod tree;
+mod value;
+mod words;
+mod writing;
+
+// A verb, and how many words the whole command has with it.
+enum Verb {
+    Table,
+    Read,
+    Append,
+    Frames,
+    Write,
+    Unknown,
+}
+
+fn say_usage() {
+    words::say(
+        b"shelf table FILE                    is the table good? its shape as a tree\n\
+        shelf read TABLE MESSAGE            each entry of the message on a line, and the rest\n\
+        shelf append OLD NEW                does the new table only append to the old one?\n\
+        shelf frames FILE                   the messages in a recorded stream of frames\n\
+        shelf write TABLE VALUES POOL OUT   writes the message of a value list\n",
+    );
+}
+
+fn verb_of(word: &[u8]) -> Verb {
+    if check::same(word, b"table") {
+        return Verb::Table;
+    }
+    if check::same(word, b"read") {
+        return Verb::Read;
+    }
+    if check::same(word, b"append") {
+        return Verb::Append;
+    }
+    if check::same(word, b"frames") {
+        return Verb::Frames;
+    }
+    if check::same(word, b"write") {
+        return Verb::Write;
+    }
+    Verb::Unknown
+}
+
+// How many words a command with this verb has.
+fn words_of(verb: Verb) -> usize {
+    match verb {
+        Verb::Table => 3,
+        Verb::Read => 4,
+        Verb::Append => 4,
+        Verb::Frames => 3,
+        Verb::Write => 6,
+        Verb::Unknown => 0,
+    }
+}
+
+fn run(verb: Verb) {
+    match verb {
+        Verb::Table => tree::run(),
+        Verb::Read => listing::run(),
+        Verb::Append => apart::run(),
+        Verb::Frames => frames::run(),
+        Verb::Write => writing::run(),
+        Verb::Unknown => say_usage(),
+    }
+}
+
+fn main() {
+    let mut word = io::buffer();
+    let n = os::arg(1, &mut word);
+    let asked = verb_of(&word[..n]);
+    if os::arg_count() != words_of(asked) {
+        return say_usage();
+    }
+    run(asked);
+}

@@ -1,0 +1,102 @@
+// A value in its kind's own form, with a space in front if it has one.
+use crate::words::front;
+use crate::words::say;
+use crate::words::say_bytes;
+use crate::words::say_count;
+use crate::words::say_number;
+use libc::STDOUT_FILENO;
+
+fn say_signed(word: u64) {
+    if spelling::is_negative(word) {
+        say(b" -");
+    } else {
+        say(b" ");
+    }
+    say_number(spelling::size(word));
+}
+
+fn say_bits(word: u64, digits: usize) {
+    say(b" bits ");
+    io::print_hex(STDOUT_FILENO, word, digits);
+}
+
+fn say_escaped(b: u8) {
+    let spelled = spelling::escaped(b);
+    let bytes = spelled.bytes;
+    say(front(&bytes, spelled.len));
+}
+
+fn say_quoted(text: &[u8]) {
+    say(b" \"");
+    let mut i = 0;
+    while i < text.len() {
+        say_escaped(text[i]);
+        i += 1;
+    }
+    say(b"\"");
+}
+
+fn say_char(c: u64) {
+    let form = utf8::char_bytes(c);
+    let bytes = form.bytes;
+    say_quoted(front(&bytes, form.len));
+}
+
+// The part of the message that an entry names.
+fn say_content(text: bool, offset: u64, len: u64, message: &[u8]) {
+    let from = offset as usize;
+    let size = len as usize;
+    if from <= message.len() {
+        if size <= message.len() - from {
+            let part = &message[from..from + size];
+            if text {
+                return say_quoted(part);
+            }
+            say_bytes(part);
+        }
+    }
+}
+
+fn say_presence(first: u64) {
+    if first == 0 {
+        return say(b" absent");
+    }
+    say(b" present");
+}
+
+fn say_truth(first: u64) {
+    if first == 0 {
+        return say(b" false");
+    }
+    say(b" true");
+}
+
+fn say_of(n: u64, thing: &[u8]) {
+    say(b" of ");
+    say_count(n, thing);
+}
+
+// An entry's value behind its kind, of a kind with so many children.
+pub fn say_value(number: u8, width: usize, first: u64, second: u64, message: &[u8]) {
+    match number {
+        0 => say_truth(first),
+        1..=4 | 20..=22 | 26..=28 => say_signed(first),
+        9 => say_bits(first, 8),
+        10 => say_bits(first, 16),
+        11 => say_char(first),
+        12 | 13 => say_content(number == 12, first, second, message),
+        14 => {}
+        15 => say_presence(first),
+        16 => say_of(first, b"element"),
+        17 => say_of(first, b"pair"),
+        18 => say_of(width as u64, b"field"),
+        19 => {
+            say(b", variant ");
+            say_number(first);
+        }
+        _ => {
+            say(b" ");
+            say_number(first);
+        }
+    }
+}

@@ -1,0 +1,27 @@
+/* Reads samples/count-end.message by samples/count.table through the static library, and writes what came back. */
+#include <inttypes.h>
+#include <stdio.h>
+
+#include "reystavem.h"
+
+static size_t load(const char *path, uint8_t *room, size_t size)
+{
+    FILE *file = fopen(path, "rb");
+    size_t len = file ? fread(room, 1, size, file) : 0;
+    if (file)
+        fclose(file);
+    return len;
+}
+
+int main(void)
+{
+    uint8_t table[4096], message[4096];
+    uint64_t store[2 * 64], place = 0, count = 0;
+    size_t table_len = load("samples/count.table", table, sizeof table);
+    size_t message_len = load("samples/count-end.message", message, sizeof message);
+    uint64_t answer = reystavem_read(table, table_len, message, message_len, store, 2 * 64, &place, &count);
+    printf("answer %" PRIu64 ", place %" PRIu64 ", entries %" PRIu64 "\n", answer, place, count);
+    if (answer == 0 && count == 4)
+        printf("store %" PRIu64 ", product %" PRIu64 ", count %" PRId64 "\n", store[2], store[4], (int64_t)store[6]);
+    return 0;
+}

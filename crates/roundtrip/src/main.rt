@@ -514,12 +514,7 @@ fn write_case(name: &[u8], table: &[u8], words: &[u64], pool: &[u8]) {
     say_bytes(&out);
 }
 
-fn lists() {
-    let i16 = b"\x02\0\0\0\0\0\0\0\x06\0\x01\0\0\0\x53\x50";
-    let units = b"\x0e\0\0\0\0\0\x10\0\0\0\0\0\0\0\x0c\0\x02\0\x01\0\x53\x50";
-    let text = b"\x0c\0\0\0\0\0\0\0\x06\0\x01\0\0\0\x53\x50";
-    let texts = b"\x0d\0\0\0\0\0\x10\0\0\0\0\0\0\0\x0c\0\x02\0\x01\0\x53\x50";
-    write_case(b"8. i16 -32768", i16, &[0xffff_ffff_ffff_8000, 0], b"");
+fn bad_tables() {
     write_case(b"no trailer", b"", &[0, 0], b"");
     write_case(
         b"a bad record",
@@ -527,24 +522,43 @@ fn lists() {
         &[0, 0],
         b"",
     );
+}
+
+// Lists of one i16, document 01's case 8 among them.
+fn numbers(i16: &[u8]) {
+    write_case(b"8. i16 -32768", i16, &[0xffff_ffff_ffff_8000, 0], b"");
     write_case(b"an odd word", i16, &[9, 9, 9], b"");
     write_case(b"not an i16", i16, &[0x8000, 0], b"");
+}
+
+fn lengths(i16: &[u8]) {
     write_case(b"a second word", i16, &[1, 1], b"");
     write_case(b"no entry", i16, &[], b"");
     write_case(b"a surplus entry", i16, &[1, 0, 1, 0], b"");
+}
+
+fn texts(text: &[u8]) {
+    write_case(b"beyond the pool", text, &[0xffff_ffff_ffff_ffff, 2], b"ab");
+    write_case(b"not UTF-8", text, &[0, 2], b"\xc3a");
+}
+
+fn full_outputs(text: &[u8]) {
+    write_case(b"a text that just fits", text, &[1, 4], b"abcde");
+    write_case(b"a text too long", text, &[0, 5], b"abcde");
+}
+
+fn sequences() {
+    let units = b"\x0e\0\0\0\0\0\x10\0\0\0\0\0\0\0\x0c\0\x02\0\x01\0\x53\x50";
     write_case(
         b"2^64 - 1 units",
         units,
         &[0xffff_ffff_ffff_ffff, 0, 0, 0],
         b"",
     );
-    write_case(b"beyond the pool", text, &[0xffff_ffff_ffff_ffff, 2], b"ab");
-    write_case(b"not UTF-8", text, &[0, 2], b"\xc3a");
-    write_case(b"a text that just fits", text, &[1, 4], b"abcde");
-    write_case(b"a text too long", text, &[0, 5], b"abcde");
+    let parts = b"\x0d\0\0\0\0\0\x10\0\0\0\0\0\0\0\x0c\0\x02\0\x01\0\x53\x50";
     write_case(
         b"one part many times",
-        texts,
+        parts,
         &[3, 0, 0, 1, 0, 1, 0, 1],
         b"a",
     );
@@ -552,5 +566,12 @@ fn lists() {
 
 fn main() {
     there_and_back();
-    lists();
+    bad_tables();
+    let i16 = b"\x02\0\0\0\0\0\0\0\x06\0\x01\0\0\0\x53\x50";
+    numbers(i16);
+    lengths(i16);
+    let text = b"\x0c\0\0\0\0\0\0\0\x06\0\x01\0\0\0\x53\x50";
+    texts(text);
+    full_outputs(text);
+    sequences();
 }

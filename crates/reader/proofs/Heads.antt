@@ -24,7 +24,7 @@ use Rattle.laws.proofs.Splits.{by-lt, of-pick}
 use Rattle.laws.proofs.Bounds.{head-fits}
 use Rattle.laws.proofs.EachKind.{end, _&_, in-kinds, low-kinds, high-kinds}
 use Rattle.leaf.specs.Leaves.{isLeaf, takeAt}
-use Rattle.leaf.proofs.Leaves.{low-leaf, high-leaf}
+use Rattle.leaf.proofs.Leaves.{low-leaf, high-leaf, is-leaf}
 use Rattle.reader.specs.Steps.{Puts, entry, same}
 
 -- ---- a variant's number
@@ -81,6 +81,11 @@ module _ (n p : ℕ) (s : List ℕ) (k : ℕ) where
     where
       outer-leaf : isLeaf k ≡ true
       outer-leaf = by-lt k 15 (λ h. low-leaf k h) (λ h. by-lt 19 k (λ g. high-leaf k g (omega arith)) (λ g. absurd (outer h g)))
+
+module _ (p : ℕ) (s : List ℕ) (k : ℕ) where
+  -- a leaf below 15
+  pub low-number : (j : ℕ) → k ≡ j → j < 15 → p + length s < 2 ^ 64 → {r : Item} → r ≡ head (kindOf j) 0 p s → r ≡ takeAt k p s
+  low-number j e low fits q = is-leaf k p s fits (low-leaf k (omega arith)) (rw e q)
 
   -- a leaf's item ends inside the part
   pub leaf-inside : {a b u : ℕ} → takeAt k p s ≡ Took a b u → u ≤ length s

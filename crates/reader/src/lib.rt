@@ -69,33 +69,6 @@ fn head_bytes(number: u8, count: usize, part: &[u8], place: usize) -> Item
     }
 }
 
-// i8 to i64. `leaf` has the same for `leaf::take`, whose callers are several: it stays a call, and a call costs more than
-// most integers take. These two are inlined.
-fn signed(number: u8, part: &[u8]) -> Item
-    requires { ⌜ (1 ≤ number) × (number ≤ 4) ⌝ }
-    ensures { λ r. ⌜ r ≡ headOf (kindOf number) 0 0 (now (part .entry)) ⌝ }
-{
-    match number {
-        1 => fixint::take8(part, true),
-        2 => leaf::unzigzag(varint::take_u16(part)),
-        3 => leaf::unzigzag(varint::take_u32(part)),
-        _ => leaf::unzigzag(varint::take(part, varint::U64::MOST, varint::U64::LAST)),
-    }
-}
-
-// u8 to u64.
-fn unsigned(number: u8, part: &[u8]) -> Item
-    requires { ⌜ (5 ≤ number) × (number ≤ 8) ⌝ }
-    ensures { λ r. ⌜ r ≡ headOf (kindOf number) 0 0 (now (part .entry)) ⌝ }
-{
-    match number {
-        5 => fixint::take8(part, false),
-        6 => varint::take_u16(part),
-        7 => varint::take_u32(part),
-        _ => varint::take(part, varint::U64::MOST, varint::U64::LAST),
-    }
-}
-
 // A leaf's item by a call. The part is lent from here, so that a caller which doesn't come here keeps its own in registers.
 fn by_call(number: u8, part: &[u8], place: usize) -> Item
     ensures { λ r. ⌜ r ≡ takeAt number place (now (part .entry)) ⌝ }
@@ -103,14 +76,21 @@ fn by_call(number: u8, part: &[u8], place: usize) -> Item
     leaf::anew(leaf::take(number, part, place))
 }
 
-// The own bytes of a leaf whose first byte stands at `place`.
+// The own bytes of a leaf whose first byte stands at `place`. The integers are taken here, as `leaf::take` does it: that
+// has several callers and so stays a call, which costs more than most integers.
 fn leaf_bytes(number: u8, part: &[u8], place: usize) -> Item
     requires { ⌜ place + length (now part) < 2 ^ 64 ⌝ }
     ensures { λ r. ⌜ r ≡ takeAt number place (now (part .entry)) ⌝ }
 {
     match number {
-        1..=4 => signed(number, part),
-        5..=8 => unsigned(number, part),
+        1 => fixint::take8(part, true),
+        2 => leaf::unzigzag(varint::take_u16(part)),
+        3 => leaf::unzigzag(varint::take_u32(part)),
+        4 => leaf::unzigzag(varint::take(part, varint::U64::MOST, varint::U64::LAST)),
+        5 => fixint::take8(part, false),
+        6 => varint::take_u16(part),
+        7 => varint::take_u32(part),
+        8 => varint::take(part, varint::U64::MOST, varint::U64::LAST),
         _ => by_call(number, part, place),
     }
 }

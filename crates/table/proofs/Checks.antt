@@ -11,12 +11,12 @@ use borrow.Author.Tests.{leb-true, eq-eqb, ne-eqb, le-leb, lt-leb, lt-ltb, le-lt
 use Rattle.wire.specs.declared.Refusal.the-variants.{Trailer, Record}
 use Rattle.wire.specs.declared.Layout.{Layout}
 use Rattle.wire.specs.declared.Checked.the-variants.{Good, Bad}
-use Rattle.wire.specs.Tests.{given, both}
+use Rattle.wire.specs.Tests.{pick, given, both}
 use Rattle.wire.specs.Shape.{Kind, plain, pooled, option, sequence, map, struct, enum}
 use Rattle.wire.specs.Table.{u16At, layoutAt, goodTrailer, isKind, kindOf, Node, nodeAt, recordOf, firstChild, childCount, below, goodPlaces, goodKind, goodNode, checkFrom, checkAt, check}
 use Rattle.laws.specs.Tables.{nodeKind, nodeFirst, nodeCount}
 use Rattle.laws.proofs.Splits.{both-right}
-use Rattle.table.specs.Parts.{Inside}
+use Rattle.table.specs.Parts.{Inside, badAt}
 
 -- ---- a node
 
@@ -112,6 +112,15 @@ module _ (s : List ℕ) (l : Layout) (i left : ℕ) where
   pub from-next : 0 < left → true ≡ goodNode s l i (nodeAt s (recordOf l i)) → checkFrom s l i left ≡ checkFrom s l (i + 1) (left - 1)
   unfolding given
   from-next h e = rw (next h, ← e)
+
+module _ (l : Layout) (i : ℕ) where
+  pub bad-node : i < l .nodes → Bad Record i ≡ badAt l i
+  unfolding badAt pick
+  bad-node h = rw (lt-ltb i (l .nodes) h)
+
+  pub no-bad : l .nodes ≤ i → Good l ≡ badAt l i
+  unfolding badAt pick
+  no-bad h = rw (le-ltb i (l .nodes) h)
 
 -- ---- the whole
 

@@ -12,7 +12,7 @@ ghost use Rattle.wire.specs.Walk.{following, isKnown};
 ghost use Rattle.wire.specs.Table.{u16At, layoutAt, goodNumbers, goodTrailer, isKind, kindOf, recordOf, nodeAt, firstChild, childCount, goodPlaces, goodNode, checkFrom};
 ghost use Rattle.wire.specs.Table.{below as allBelow, check as checkOf};
 ghost use Rattle.laws.specs.Tables.{nodeFirst, nodeCount, GoodTable};
-ghost use Rattle.table.specs.Parts.{Inside, followed};
+ghost use Rattle.table.specs.Parts.{Inside, badAt, followed};
 
 // The trailer's bytes and a record's, the most nodes and bytes of child list, and the mark.
 const TRAILER: usize = 10;
@@ -226,22 +226,31 @@ fn good_node(table: &[u8], l: Layout, i: usize) -> bool
 
 // ---- the check
 
-// The first node that is not good, or the layout.
+// The first node that is not good, or how many there are: a number, since an answer made in a loop is kept in memory.
+fn first_bad(table: &[u8], l: Layout) -> usize
+    requires { ⌜ Inside (now table) l ⌝ }
+    ensures { λ r. ⌜ checkFrom (now (table .entry)) l 0 (l .nodes) ≡ badAt l r ⌝ }
+{
+    let mut i = 0;
+    while i < l.nodes {
+        if !good_node(table, l, i) {
+            return i;
+        }
+        i = i + 1;
+    }
+    i
+}
+
 fn check_nodes(table: &[u8], l: Layout) -> Checked
     requires { ⌜ Inside (now table) l ⌝ }
     ensures { λ r. ⌜ r ≡ checkFrom (now (table .entry)) l 0 (l .nodes) ⌝ }
 {
-    let mut i = 0;
-    let mut left = l.nodes;
-    while 0 < left {
-        if !good_node(table, l, i) {
-            return Checked::Bad {
-                why: Refusal::Record,
-                place: i,
-            };
-        }
-        i = i + 1;
-        left = left - 1;
+    let bad = first_bad(table, l);
+    if bad < l.nodes {
+        return Checked::Bad {
+            why: Refusal::Record,
+            place: bad,
+        };
     }
     Checked::Good { layout: l }
 }

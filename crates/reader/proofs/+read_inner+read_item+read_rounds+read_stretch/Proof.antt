@@ -76,8 +76,7 @@ module _ (t : ℕ) where
   inner-flat-requires : read-inner-lts.Need-flat-requires inner-calls inner-at read-inner.Post
   inner-flat-requires c κs =
       let s = c .before .before .before .before .before .before .before .before .before .before .before .before in
-      let g = item-goes (c .before .before .before .before .before .before .before .enter .ensures) (c .before .before .before .entered2 .given .1) in
-      (s .pre .1 .0, (omega (arith, s .pre .1 .1 .0), g .falls))
+      (s .pre .1 .0, (omega (arith, s .pre .1 .1 .0), item-goes (c .before .before .before .before .before .before .before .enter .ensures) (c .before .before .before .entered2 .given .1) .falls))
 
   inner-inside : (c : read-inner-lts.After-flat inner-calls inner-at read-inner.Post) → c .before .before .before .before .entered2 .given .0 .1 .0 ≤ length (c .before .before .before .before .before .before .before .before .before .before .before .before .before .args .part .now)
   inner-inside c = item-goes (c .before .before .before .before .before .before .before .before .enter .ensures) (c .before .before .before .before .entered2 .given .1) .inside

@@ -22,7 +22,7 @@ put-entry-requires c κs = search needs
 add-behind : tie.Need-add-behind
 add-behind c =
     let s = c .before .before .before .before .before .before .before .before .before .before in
-    let u = leaf-inside 0 _ _ _ (sym (c .before .before .before .before .before .before .before .leaf-bytes .ensures) ∙ c .before .before .before .before .before .own2 .given .1) in
+    let u = leaf-inside _ _ _ (sym (c .before .before .before .before .before .before .before .leaf-bytes .ensures) ∙ c .before .before .before .before .before .own2 .given .1) in
     omega (arith, u, s .pre .0)
 
 add-count : tie.Need-add-count

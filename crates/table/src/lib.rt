@@ -142,13 +142,12 @@ fn good_variants(places: usize, a: usize, b: usize) -> bool
     false
 }
 
-// Whether a record's kind, a and b are good, but for the numbers of its children.
+// Whether a record's kind from 15 on, a and b are good, but for the numbers of its children.
 fn good_places(l: Layout, number: u8, a: usize, b: usize) -> bool
-    requires { ⌜ (a < 65536) × (b < 65536) ⌝ }
+    requires { ⌜ (15 ≤ number) × (a < 65536) × (b < 65536) ⌝ }
     ensures { λ r. ⌜ r ≡ both (isKind number) (goodPlaces l (kindOf number) a b) ⌝ }
 {
     match number {
-        0..=14 => both_zero(a, b),
         15 | 16 => b == 0,
         17 => true,
         18 => good_fields(l.places, a, b),
@@ -216,6 +215,9 @@ fn good_node(table: &[u8], l: Layout, i: usize) -> bool
     }
     let a = u16_at(table, at + 2);
     let b = u16_at(table, at + 4);
+    if number < 15 {
+        return both_zero(a, b);
+    }
     if good_places(l, number, a, b) {
         let count = children_of(number, b);
         let from = children_from(l, i, number, a);

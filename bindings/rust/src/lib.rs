@@ -157,6 +157,7 @@ pub struct ReadRefused {
 }
 
 /// Reads a message into a store, two words an entry. Words behind the entries stay as they were.
+#[inline]
 pub fn read<'m>(table: &[u8], message: &'m [u8], store: &mut [u64]) -> Result<Read<'m>, ReadRefused> {
     let (mut place, mut count) = (0, 0);
     // SAFETY: each slice is lent with its own length; `store` is borrowed for us alone.

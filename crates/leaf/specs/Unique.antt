@@ -5,6 +5,8 @@ use mathlib.Core.List.{List}
 use Prim.Native.Nat.{ℕ}
 use Rattle.wire.specs.declared.Refusal.{Refusal}
 use Rattle.wire.specs.declared.Item.{Item}
+use Rattle.wire.specs.Shape.{signed}
+use Rattle.wire.specs.Numbers.{unzigzagged, onFirst}
 use Rattle.wire.specs.Reading.{flag}
 use Rattle.laws.specs.Unique.{Unique}
 use Rattle.leaf.specs.Leaves.{takeAt}
@@ -14,3 +16,9 @@ OneFlag = (e : Refusal) (s : List ℕ) → Unique (λ (r : Item). r ≡ flag e s
 
 abbrev pub OneTake : Type 0
 OneTake = (k p : ℕ) (s : List ℕ) → Unique (λ (r : Item). r ≡ takeAt k p s)
+
+abbrev pub OneUnzigzag : Type 0
+OneUnzigzag = (i : Item) → Unique (λ (r : Item). r ≡ onFirst (unzigzagged signed) i)
+
+abbrev pub OneAnew : Type 0
+OneAnew = (i : Item) → Unique (λ (r : Item). r ≡ i)

@@ -33,7 +33,7 @@ pub fn take_flag(part: &[u8], why: Refusal) -> Item
 }
 
 // The item whose zigzag form was taken.
-fn unzigzag(got: Item) -> Item
+pub fn unzigzag(got: Item) -> Item
     ensures { λ r. ⌜ r ≡ numbers.onFirst (numbers.unzigzagged shapes.signed) got ⌝ }
 {
     let Item::Took {
@@ -47,6 +47,25 @@ fn unzigzag(got: Item) -> Item
     let word = zigzag::unzigzag(first);
     Item::Took {
         first: word,
+        second,
+        used,
+    }
+}
+
+// The same item, made anew: one that a call left in memory then meets those of other arms in registers.
+pub fn anew(got: Item) -> Item
+    ensures { λ r. ⌜ r ≡ got ⌝ }
+{
+    let Item::Took {
+        first,
+        second,
+        used,
+    } = got
+    else {
+        return got;
+    };
+    Item::Took {
+        first,
         second,
         used,
     }
@@ -140,6 +159,22 @@ fn fixed(k: u8, part: &[u8], big: bool) -> Item
     }
 }
 
+// The kinds from 9 on, whose functions stay calls.
+fn others(kind: u8, part: &[u8], place: usize) -> Item
+    requires { ⌜ (9 ≤ kind) × (place + length (now part) < 2 ^ 64) ⌝ }
+    ensures { λ r. ⌜ r ≡ takeAt kind place (now (part .entry)) ⌝ }
+{
+    match kind {
+        9..=10 => float(kind, part),
+        11..=14 => text(kind, part, place),
+        20..=25 => fixed(kind - 20, part, false),
+        26..=31 => fixed(kind - 26, part, true),
+        _ => Item::Refused {
+            why: Refusal::Record,
+        },
+    }
+}
+
 // The leaf of a kind whose first byte stands at `place` of the message. A kind that is no leaf's is refused as a bad
 // record, and a part that reaches beyond the last place that a word holds as ended.
 pub fn take(kind: u8, part: &[u8], place: usize) -> Item
@@ -152,12 +187,6 @@ pub fn take(kind: u8, part: &[u8], place: usize) -> Item
         0 => take_flag(part, Refusal::Bool),
         1..=4 => signed(kind, part),
         5..=8 => unsigned(kind, part),
-        9..=10 => float(kind, part),
-        11..=14 => text(kind, part, place),
-        20..=25 => fixed(kind - 20, part, false),
-        26..=31 => fixed(kind - 26, part, true),
-        _ => Item::Refused {
-            why: Refusal::Record,
-        },
+        _ => anew(others(kind, part, place)),
     }
 }

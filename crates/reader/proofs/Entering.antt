@@ -1,7 +1,7 @@
 -- An item of a node, as the code enters it: no room, refused, or taken with a stretch behind it.
 -- Assumes nothing.
 use mathlib.Core.Path.{_≡_, refl, sym, ap₂, _∙_}
-use mathlib.Core.Bool.{true}
+use mathlib.Core.Bool.{true, false}
 use mathlib.Core.List.{List, [], _∷_}
 use Prim.Native.Nat.{ℕ, suc, _+_, _-_, _*_, _/_, _≤_, _<_}
 use native.Mathlib.Omega.{arith}
@@ -12,9 +12,9 @@ use Rattle.wire.specs.declared.Refusal.the-variants.{Room}
 use Rattle.wire.specs.declared.Item.{Item}
 use Rattle.wire.specs.declared.Item.the-variants.{Took, Refused}
 use Rattle.wire.specs.declared.Layout.{Layout}
-use Rattle.wire.specs.Walk.{each, following, isKnown, times, along, walks}
+use Rattle.wire.specs.Walk.{Follow, each, following, isKnown, times, along, walks}
 use Rattle.wire.specs.Table.{kindOf, Node, nodeAt, recordOf}
-use Rattle.wire.specs.Reading.{refused, head, past, enter, readItem, reading, fit}
+use Rattle.wire.specs.Reading.{Spot, refused, head, past, enter, readItem, reading, fit}
 use Rattle.wire.specs.Answers.{words, wordsOf, roomOf}
 use Rattle.laws.specs.Bounds.{Fits, takes}
 use Rattle.laws.specs.Tables.{nodeKind, nodeFirst, nodeCount, nodeShape, nodeShapes, GoodTable}
@@ -24,12 +24,23 @@ use Rattle.laws.proofs.Runs.{then-nothing}
 use Rattle.laws.proofs.Children.{read-node, read-none}
 use Rattle.laws.proofs.Numbering.{kind-below}
 use Rattle.table.specs.declared.Stretch.{Stretch}
-use Rattle.table.specs.Parts.{followed}
+use Rattle.table.specs.Parts.{Falls, followed}
 use Rattle.table.proofs.Stretches.{node-falls, falls-followed, along-followed}
 use Rattle.reader.specs.Lay.{laid, lay}
-use Rattle.reader.specs.Steps.{spot, readNode, readRow, headed, readRounds, Found, Leads, Goes}
+use Rattle.reader.specs.Steps.{spot, readNode, readRow, headed, readRounds, Goes}
 use Rattle.reader.proofs.Heads.{outer-kinds}
 use Rattle.reader.proofs.Laying.{left, laid-none, laid-behind, room-sets}
+
+-- the number of a node's kind, and how many children it has
+pub record Found (s : List ℕ) (l : Layout) (i number n : ℕ) : Type 0 where
+  pub kind : number ≡ nodeAt s (recordOf l i) .number
+  pub count : n ≡ nodeCount (nodeAt s (recordOf l i))
+
+-- the stretch that follows an item of the node i
+pub record Leads (s : List ℕ) (l : Layout) (i : ℕ) (way : Follow) (to : Stretch) : Type 0 where
+  pub falls : Falls s (to .from) (to .width) i
+  pub same : (x : Spot) → along (reading head) way (walks (reading head) (nodeShapes s l i (nodeAt s (recordOf l i)))) x
+      ≡ readRounds s l (to .rounds) false (to .from) (to .width) x
 
 module _ (s : List ℕ) (l : Layout) (i : ℕ) (g : GoodTable s l) (h : i < l .nodes) where
   abbrev node : Node

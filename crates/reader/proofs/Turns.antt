@@ -3,30 +3,34 @@
 use mathlib.Core.Path.{_≡_, refl, sym, ap, ap₂, _∙_}
 use mathlib.Core.Bool.{Bool, false}
 use mathlib.Core.List.{List}
-use Prim.Native.Nat.{ℕ, _+_, _-_, _<_, _≤_}
+use Prim.Native.Nat.{ℕ, _+_, _-_, _/_, _<_, _≤_, _^_}
 use native.Mathlib.Omega.{arith}
 use lib.ListN.{length, take, drop}
 use Rattle.wire.specs.declared.Refusal.{Refusal}
+use Rattle.wire.specs.declared.Item.{Item}
 use Rattle.wire.specs.declared.Layout.{Layout}
 use Rattle.wire.specs.declared.ReadAnswer.{ReadAnswer}
 use Rattle.wire.specs.declared.ReadAnswer.the-variants.{Done, Refused}
-use Rattle.wire.specs.Table.{u16At, shapesAt}
+use Rattle.wire.specs.Table.{u16At, kindOf, nodeAt, recordOf, shapesAt}
 use Rattle.wire.specs.Reading.{Spot, Outcome, reached, refused, Run, head, past, readThen, reading, read, fit}
 use Rattle.wire.specs.Answers.{roomOf, readAnswer}
 use Rattle.wire.specs.Walk.{times}
 use Rattle.laws.specs.Bounds.{Stays, reaches}
-use Rattle.laws.specs.Tables.{nodeShape}
+use Rattle.laws.specs.Tables.{nodeCount, nodeShape, GoodTable}
 use Rattle.laws.proofs.Bounds.{read-stays, row-stays}
 use Rattle.laws.proofs.Children.{times-none, times-more, row-none, row-more}
 use Rattle.laws.proofs.Parts.{tail, length-tail}
 use Rattle.laws.proofs.Runs.{fit-reached}
+use Rattle.leaf.specs.Leaves.{takeAt}
 use Rattle.table.specs.declared.Stretch.{Stretch}
 use Rattle.reader.specs.declared.Entered.{Entered}
 use Rattle.reader.specs.declared.Entered.the-variants.{On}
 use Rattle.reader.specs.declared.Entered.the-variants as entered
 use Rattle.reader.specs.declared.Way.{Way}
 use Rattle.reader.specs.Lay.{Left, laid, lay, Gives}
-use Rattle.reader.specs.Steps.{spot, readNode, readRow, headed, readRounds, Goes, Enters, goes, stops, Flat}
+use Rattle.reader.specs.Steps.{spot, readNode, readRow, headed, readRounds, Puts, entry, same, Goes, Enters, goes, stops, Flat}
+use Rattle.reader.proofs.Entering.{Found, number-small, leads-nowhere, enters-refused, goes-on}
+use Rattle.reader.proofs.Heads.{head-leaf}
 use Rattle.reader.proofs.Laying.{left, gives-refused, gives-done, lay-nothing, onBy, lay-then}
 
 -- ---- a call, and then more
@@ -132,6 +136,19 @@ module _ {w : Left} {s : List ℕ} {l : Layout} {i : ℕ} {bs : List ℕ} {p m :
       → Gives (lay (readRounds s l (to .rounds) (way .headed) (way .from) (way .width) (spot (take (length bs - u) (drop u bs)) (p + u))) (m + 1) st) a left → Gives w a left
   unfolding past
   item-on f h = rw (g .rest, flat-rounds f (to .rounds)) (rw (tail bs u) at h)
+
+-- a leaf that was read: nothing follows it
+module _ (s : List ℕ) (l : Layout) (i : ℕ) (g : GoodTable s l) (h : i < l .nodes) (bs : List ℕ) (p k : ℕ) where
+  pub leaf-gives : k ≡ nodeAt s (recordOf l i) .number → (15 ≤ k → k ≤ 19 → ⊥) → p + length bs < 2 ^ 64 → (m : ℕ) (store : List ℕ) → m < length store / 2
+      → {a : ReadAnswer} {st : List ℕ} → Puts p m store (takeAt k p bs) a st → Gives (lay (readNode s l i (spot bs p)) m store) a st
+  leaf-gives e outer fits m store room = go _ (head-leaf _ p bs k outer (number-small s l i g h k e) fits)
+    where
+      f : Found s l i k (nodeCount (nodeAt s (recordOf l i)))
+      f = record { kind = e; count = refl }
+
+      go : (own : Item) → own ≡ head (kindOf k) (nodeCount (nodeAt s (recordOf l i))) p bs → {a : ReadAnswer} {st : List ℕ} → Puts p m store own a st → Gives (lay (readNode s l i (spot bs p)) m store) a st
+      go own found (entry {a}) = item-end (goes-on s l i g h bs p k _ own f found m store room _ _ refl (leads-nowhere s l i g h k a outer) refl) refl
+      go own found same = gives-refused (enters-refused s l i g h bs p k _ own f found m store room refl)
 
 -- both stay inside their bytes
 pub node-steady : (s : List ℕ) (l : Layout) (i : ℕ) (x : Spot) → Stays x (readNode s l i x .made) (readNode s l i x .ends)

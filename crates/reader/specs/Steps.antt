@@ -7,13 +7,17 @@ use Prim.Native.Nat.{ℕ, _+_, _*_, _≤_, _<_}
 use lib.ListN.{length}
 use lib.Seq.{sets}
 use Rattle.wire.specs.declared.Refusal.{Refusal}
+use Rattle.wire.specs.declared.Item.{Item}
+use Rattle.wire.specs.declared.Item.the-variants.{Took, Refused as NotTaken}
 use Rattle.wire.specs.declared.Layout.{Layout}
-use Rattle.wire.specs.Walk.{Follow, times, along, walks}
+use Rattle.wire.specs.declared.ReadAnswer.{ReadAnswer}
+use Rattle.wire.specs.declared.ReadAnswer.the-variants.{Done, Refused as NotRead}
+use Rattle.wire.specs.Walk.{times}
 use Rattle.wire.specs.Table.{nodeAt, recordOf, shapesAt}
 use Rattle.wire.specs.Reading.{Spot, Run, refused, head, behind, past, reading, read}
 use Rattle.wire.specs.Answers.{wordsPer, roomOf}
 use Rattle.laws.specs.Steps.{row}
-use Rattle.laws.specs.Tables.{nodeCount, nodeShape, nodeShapes}
+use Rattle.laws.specs.Tables.{nodeShape}
 use Rattle.table.specs.declared.Stretch.{Stretch}
 use Rattle.table.specs.Parts.{Falls}
 use Rattle.reader.specs.declared.Entered.{Entered}
@@ -44,16 +48,16 @@ readRounds s l c h from n = times (reading head) c (headed h (readRow s l from n
 
 -- ---- what the code finds
 
--- the number of a node's kind, and how many children it has
-pub record Found (s : List ℕ) (l : Layout) (i number n : ℕ) : Type 0 where
+-- the number of a node's kind, one of those that have children
+pub record Inner (s : List ℕ) (l : Layout) (i number : ℕ) : Type 0 where
   pub kind : number ≡ nodeAt s (recordOf l i) .number
-  pub count : n ≡ nodeCount (nodeAt s (recordOf l i))
+  pub low : 15 ≤ number
+  pub high : number ≤ 19
 
--- the stretch that follows an item of the node i
-pub record Leads (s : List ℕ) (l : Layout) (i : ℕ) (way : Follow) (to : Stretch) : Type 0 where
-  pub falls : Falls s (to .from) (to .width) i
-  pub same : (x : Spot) → along (reading head) way (walks (reading head) (nodeShapes s l i (nodeAt s (recordOf l i)))) x
-      ≡ readRounds s l (to .rounds) false (to .from) (to .width) x
+-- What a leaf's own item at the place p leaves behind m entries in the store: its entry, or its refusal and nothing else.
+pub data Puts (p m : ℕ) (s : List ℕ) : Item → ReadAnswer → List ℕ → Type 0 where
+  entry : {a b n : ℕ} → Puts p m s (Took a b n) (Done (p + n) (m + 1)) (sets s (wordsPer * m) (a ∷ b ∷ []))
+  same : {e : Refusal} → Puts p m s (NotTaken e) (NotRead e p m) s
 
 -- An item of the node i at the spot x was entered behind m entries: its own bytes are there, the nodes that follow fall,
 -- and what they leave is what the item leaves.

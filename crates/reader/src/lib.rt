@@ -10,15 +10,14 @@ ghost use mathlib.Core.List.{[], _∷_};
 ghost use Prim.Native.Nat.{_+_, _*_, _/_, _^_, _<_, _≤_};
 ghost use lib.ListN.{length};
 ghost use lib.Seq.{sets};
-ghost use mathlib.Core.Bool.{true};
-ghost use Rattle.wire.specs.Walk.{following, isKnown};
 ghost use Rattle.wire.specs.Table.{kindOf};
 ghost use Rattle.wire.specs.Reading.{known as knownOf, head as headOf};
 ghost use Rattle.wire.specs.Answers.{reads, restOf};
 ghost use Rattle.laws.specs.Tables.{GoodTable};
+ghost use Rattle.leaf.specs.Leaves.{takeAt};
 ghost use Rattle.table.specs.Parts.{Falls};
 ghost use Rattle.reader.specs.Lay.{lay, Gives};
-ghost use Rattle.reader.specs.Steps.{spot, readNode, readRow, readRounds, Found, Leads, Enters, Flat, Begins};
+ghost use Rattle.reader.specs.Steps.{spot, readNode, readRow, readRounds, Inner, Puts, Enters, Flat, Begins};
 ghost use Rattle.reader.specs.Promise.{Reads};
 
 // What an item leaves to do: the stretch that follows it, behind the bytes that it took; or why it is refused.
@@ -70,15 +69,29 @@ fn head_bytes(number: u8, count: usize, part: &[u8], place: usize) -> Item
     }
 }
 
-// The own bytes of an item whose first byte stands at `place`.
-fn own_bytes(number: u8, count: usize, part: &[u8], place: usize) -> Item
-    requires { ⌜ number < 32 ⌝ }
+// A leaf's item by a call. The part is lent from here, so that a caller which doesn't come here keeps its own in registers.
+fn by_call(number: u8, part: &[u8], place: usize) -> Item
+    ensures { λ r. ⌜ r ≡ takeAt number place (now (part .entry)) ⌝ }
+{
+    leaf::anew(leaf::take(number, part, place))
+}
+
+// The own bytes of a leaf whose first byte stands at `place`. The integers are taken here, as `leaf::take` does it: that
+// has several callers and so stays a call, which costs more than most integers.
+fn leaf_bytes(number: u8, part: &[u8], place: usize) -> Item
     requires { ⌜ place + length (now part) < 2 ^ 64 ⌝ }
-    ensures { λ r. ⌜ r ≡ headOf (kindOf number) count place (now (part .entry)) ⌝ }
+    ensures { λ r. ⌜ r ≡ takeAt number place (now (part .entry)) ⌝ }
 {
     match number {
-        15..=19 => head_bytes(number, count, part, place),
-        _ => leaf::take(number, part, place),
+        1 => fixint::take8(part, true),
+        2 => leaf::unzigzag(varint::take_u16(part)),
+        3 => leaf::unzigzag(varint::take_u32(part)),
+        4 => leaf::unzigzag(varint::take(part, varint::U64::MOST, varint::U64::LAST)),
+        5 => fixint::take8(part, false),
+        6 => varint::take_u16(part),
+        7 => varint::take_u32(part),
+        8 => varint::take(part, varint::U64::MOST, varint::U64::LAST),
+        _ => by_call(number, part, place),
     }
 }
 
@@ -93,32 +106,41 @@ fn put_entry(store: &mut [u64], made: usize, first: u64, second: u64)
     store[at + 1] = second;
 }
 
-// What follows an item of a node, with its first word. A leaf's children are not looked for.
-fn after(table: &[u8], l: Layout, node: usize, number: u8, first: u64, width: usize) -> Stretch
-    requires { ⌜ GoodTable (now table) l ⌝ }
-    requires { ⌜ node < l .nodes ⌝ }
-    requires { ⌜ Found (now table) l node number width ⌝ }
-    requires { ⌜ isKnown (following (kindOf number) first) width ≡ true ⌝ }
-    ensures { λ r. ⌜ Leads (now (table .entry)) l node (following (kindOf number) first) r ⌝ }
+// A leaf: its entry, or why it is refused.
+fn read_leaf(number: u8, part: &[u8], place: usize, store: &mut [u64], made: usize) -> ReadAnswer
+    requires { ⌜ place + length (now part) < 2 ^ 64 ⌝ }
+    requires { ⌜ made < length (now store) / 2 ⌝ }
+    ensures { λ r. ⌜ Puts place made (now (store .entry)) (takeAt number place (now (part .entry))) r (now (store .exit)) ⌝ }
 {
-    match number {
-        15..=19 => {
-            let from = table::first_child(table, l, node);
-            table::follow(number, first, from, width)
-        }
-        _ => Stretch {
-            rounds: 0,
-            from: 0,
-            width: 0,
+    let own = leaf_bytes(number, part, place);
+    match own {
+        Item::Refused { why } => ReadAnswer::Refused {
+            why,
+            place,
+            count: made,
         },
+        Item::Took {
+            first,
+            second,
+            used,
+        } => {
+            put_entry(store, made, first, second);
+            let behind = place + used;
+            let count = made + 1;
+            ReadAnswer::Done {
+                place: behind,
+                count,
+            }
+        }
     }
 }
 
-// An item's entry, which wants room before the item's bytes are looked at, and what follows.
+// The entry of an item that has children, and what follows.
 fn enter(
     table: &[u8],
     l: Layout,
     node: usize,
+    number: u8,
     part: &[u8],
     place: usize,
     store: &mut [u64],
@@ -126,15 +148,12 @@ fn enter(
 ) -> Entered
     requires { ⌜ GoodTable (now table) l ⌝ }
     requires { ⌜ node < l .nodes ⌝ }
-    requires { ⌜ place + length (now part) < 2 ^ 64 ⌝ }
+    requires { ⌜ Inner (now table) l node number ⌝ }
+    requires { ⌜ made < length (now store) / 2 ⌝ }
     ensures { λ r. ⌜ Enters (lay (readNode (now (table .entry)) l node (spot (now (part .entry)) place)) made (now (store .entry))) (now (table .entry)) l node (spot (now (part .entry)) place) made r (now (store .exit)) ⌝ }
 {
-    if store.len() / 2 <= made {
-        return Entered::Refused { why: Refusal::Room };
-    }
-    let number = table::kind_at(table, l, node);
     let width = table::child_count(table, l, node);
-    let own = own_bytes(number, width, part, place);
+    let own = head_bytes(number, width, part, place);
     match own {
         Item::Refused { why } => Entered::Refused { why },
         Item::Took {
@@ -143,7 +162,8 @@ fn enter(
             used,
         } => {
             put_entry(store, made, first, second);
-            let to = after(table, l, node, number, first, width);
+            let from = table::first_child(table, l, node);
+            let to = table::follow(number, first, from, width);
             Entered::On { to, used }
         }
     }
@@ -206,8 +226,9 @@ fn begin(headed: bool, store: &mut [u64], made: usize) -> Begun
     Begun::At { made }
 }
 
-// ---- the cycle: an item, the rounds of the stretch that follows it, one round
+// ---- the cycle: an item, one with children, the rounds of the stretch that follows it, one round
 
+// An item. It wants room before its bytes are looked at.
 fn read_item(
     table: &[u8],
     l: Layout,
@@ -222,7 +243,39 @@ fn read_item(
     requires { ⌜ place + length (now part) < 2 ^ 64 ⌝ }
     ensures { λ r. ⌜ Gives (lay (readNode (now (table .entry)) l node (spot (now (part .entry)) place)) made (now (store .entry))) r (now (store .exit)) ⌝ }
 {
-    let entered = enter(table, l, node, part, place, store, made);
+    if store.len() / 2 <= made {
+        return ReadAnswer::Refused {
+            why: Refusal::Room,
+            place,
+            count: made,
+        };
+    }
+    let number = table::kind_at(table, l, node);
+    match number {
+        15..=19 => read_inner(table, l, node, number, part, place, store, made),
+        _ => read_leaf(number, part, place, store, made),
+    }
+}
+
+// An item that has children. It is apart from `read_item`, so that only here everything is laid out for the call in a cycle.
+fn read_inner(
+    table: &[u8],
+    l: Layout,
+    node: usize,
+    number: u8,
+    part: &[u8],
+    place: usize,
+    store: &mut [u64],
+    made: usize,
+) -> ReadAnswer
+    requires { ⌜ GoodTable (now table) l ⌝ }
+    requires { ⌜ node < l .nodes ⌝ }
+    requires { ⌜ Inner (now table) l node number ⌝ }
+    requires { ⌜ made < length (now store) / 2 ⌝ }
+    requires { ⌜ place + length (now part) < 2 ^ 64 ⌝ }
+    ensures { λ r. ⌜ Gives (lay (readNode (now (table .entry)) l node (spot (now (part .entry)) place)) made (now (store .entry))) r (now (store .exit)) ⌝ }
+{
+    let entered = enter(table, l, node, number, part, place, store, made);
     match entered {
         Entered::Refused { why } => ReadAnswer::Refused {
             why,

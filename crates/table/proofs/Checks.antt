@@ -11,12 +11,13 @@ use borrow.Author.Tests.{leb-true, eq-eqb, ne-eqb, le-leb, lt-leb, lt-ltb, le-lt
 use Rattle.wire.specs.declared.Refusal.the-variants.{Trailer, Record}
 use Rattle.wire.specs.declared.Layout.{Layout}
 use Rattle.wire.specs.declared.Checked.the-variants.{Good, Bad}
-use Rattle.wire.specs.Tests.{given, both}
+use Rattle.wire.specs.Tests.{pick, given, both}
 use Rattle.wire.specs.Shape.{Kind, plain, pooled, option, sequence, map, struct, enum}
 use Rattle.wire.specs.Table.{u16At, layoutAt, goodTrailer, isKind, kindOf, Node, nodeAt, recordOf, firstChild, childCount, below, goodPlaces, goodKind, goodNode, checkFrom, checkAt, check}
 use Rattle.laws.specs.Tables.{nodeKind, nodeFirst, nodeCount}
 use Rattle.laws.proofs.Splits.{both-right}
-use Rattle.table.specs.Parts.{Inside}
+use Rattle.laws.proofs.EachKind.{low-kinds}
+use Rattle.table.specs.Parts.{Inside, badAt}
 
 -- ---- a node
 
@@ -31,6 +32,11 @@ node-is s l i r = go (isKind (r .number)) (eqb (r .zeroed) 0) (goodPlaces l (nod
     go true false z t = refl
     go false true z t = refl
     go false false z t = refl
+
+and-true : (t : Bool) → t ≡ both t true
+unfolding both
+and-true true = refl
+and-true false = refl
 
 -- a record that is read: the kind's number, the zero byte, and then a and b
 module _ (s : List ℕ) (l : Layout) (i : ℕ) where
@@ -55,6 +61,11 @@ module _ (s : List ℕ) (l : Layout) (i : ℕ) where
     pub node-places : zeroed ≡ 0 → false ≡ places → false ≡ goodNode s l i (nodeAt s (recordOf l i))
     unfolding both
     node-places h e = rw (node-read, eq-eqb zeroed 0 h, ← e)
+
+    -- a kind without children wants no more
+    pub node-alone : zeroed ≡ 0 → number < 15 → places ≡ goodNode s l i (nodeAt s (recordOf l i))
+    unfolding both below childCount
+    node-alone h low = rw (node-read, eq-eqb zeroed 0 h, low-kinds (λ q. childCount q b ≡ 0) (λ x. refl) (λ x. refl) number low) (and-true places)
 
     pub node-below : zeroed ≡ 0 → true ≡ places
         → below s i (firstChild l i (kindOf number) a) (childCount (kindOf number) b) ≡ goodNode s l i (nodeAt s (recordOf l i))
@@ -112,6 +123,15 @@ module _ (s : List ℕ) (l : Layout) (i left : ℕ) where
   pub from-next : 0 < left → true ≡ goodNode s l i (nodeAt s (recordOf l i)) → checkFrom s l i left ≡ checkFrom s l (i + 1) (left - 1)
   unfolding given
   from-next h e = rw (next h, ← e)
+
+module _ (l : Layout) (i : ℕ) where
+  pub bad-node : i < l .nodes → Bad Record i ≡ badAt l i
+  unfolding badAt pick
+  bad-node h = rw (lt-ltb i (l .nodes) h)
+
+  pub no-bad : l .nodes ≤ i → Good l ≡ badAt l i
+  unfolding badAt pick
+  no-bad h = rw (le-ltb i (l .nodes) h)
 
 -- ---- the whole
 

@@ -3,7 +3,12 @@
 use mathlib.Core.List.{List}
 use Prim.Native.Nat.{ℕ, _+_, _*_, _≤_, _<_}
 use lib.ListN.{length}
+use lib.Dec.{ltb}
+use Rattle.wire.specs.declared.Refusal.the-variants.{Record}
 use Rattle.wire.specs.declared.Layout.{Layout}
+use Rattle.wire.specs.declared.Checked.{Checked}
+use Rattle.wire.specs.declared.Checked.the-variants.{Good, Bad}
+use Rattle.wire.specs.Tests.{pick}
 use Rattle.wire.specs.Walk.{Follow, each, only}
 use Rattle.wire.specs.Table.{u16At}
 use Rattle.table.specs.declared.Stretch.{Stretch}
@@ -12,6 +17,10 @@ use Rattle.table.specs.declared.Stretch.{Stretch}
 pub record Inside (s : List ℕ) (l : Layout) : Type 0 where
   pub records : l .records + 6 * l .nodes ≤ l .children
   pub children : l .children + 2 * l .places ≤ length s
+
+-- the check of nodes of which i is the first bad one, or none is where i is no node
+unfoldable pub badAt : Layout → ℕ → Checked
+badAt l i = pick (ltb i (l .nodes)) (Bad Record i) (Good l)
 
 -- of n children's numbers from an offset on, those that follow an item
 unfoldable pub followed : Follow → (from n : ℕ) → Stretch

@@ -12,7 +12,7 @@ ghost use Rattle.wire.specs.Walk.{following, isKnown};
 ghost use Rattle.wire.specs.Table.{u16At, layoutAt, goodNumbers, goodTrailer, isKind, kindOf, recordOf, nodeAt, firstChild, childCount, goodPlaces, goodNode, checkFrom};
 ghost use Rattle.wire.specs.Table.{below as allBelow, check as checkOf};
 ghost use Rattle.laws.specs.Tables.{nodeFirst, nodeCount, GoodTable};
-ghost use Rattle.table.specs.Parts.{Inside, followed};
+ghost use Rattle.table.specs.Parts.{Inside, badAt, followed};
 
 // The trailer's bytes and a record's, the most nodes and bytes of child list, and the mark.
 const TRAILER: usize = 10;
@@ -142,13 +142,12 @@ fn good_variants(places: usize, a: usize, b: usize) -> bool
     false
 }
 
-// Whether a record's kind, a and b are good, but for the numbers of its children.
+// Whether a record's kind from 15 on, a and b are good, but for the numbers of its children.
 fn good_places(l: Layout, number: u8, a: usize, b: usize) -> bool
-    requires { ⌜ (a < 65536) × (b < 65536) ⌝ }
+    requires { ⌜ (15 ≤ number) × (a < 65536) × (b < 65536) ⌝ }
     ensures { λ r. ⌜ r ≡ both (isKind number) (goodPlaces l (kindOf number) a b) ⌝ }
 {
     match number {
-        0..=14 => both_zero(a, b),
         15 | 16 => b == 0,
         17 => true,
         18 => good_fields(l.places, a, b),
@@ -216,6 +215,9 @@ fn good_node(table: &[u8], l: Layout, i: usize) -> bool
     }
     let a = u16_at(table, at + 2);
     let b = u16_at(table, at + 4);
+    if number < 15 {
+        return both_zero(a, b);
+    }
     if good_places(l, number, a, b) {
         let count = children_of(number, b);
         let from = children_from(l, i, number, a);
@@ -226,22 +228,31 @@ fn good_node(table: &[u8], l: Layout, i: usize) -> bool
 
 // ---- the check
 
-// The first node that is not good, or the layout.
+// The first node that is not good, or how many there are: a number, since an answer made in a loop is kept in memory.
+fn first_bad(table: &[u8], l: Layout) -> usize
+    requires { ⌜ Inside (now table) l ⌝ }
+    ensures { λ r. ⌜ checkFrom (now (table .entry)) l 0 (l .nodes) ≡ badAt l r ⌝ }
+{
+    let mut i = 0;
+    while i < l.nodes {
+        if !good_node(table, l, i) {
+            return i;
+        }
+        i = i + 1;
+    }
+    i
+}
+
 fn check_nodes(table: &[u8], l: Layout) -> Checked
     requires { ⌜ Inside (now table) l ⌝ }
     ensures { λ r. ⌜ r ≡ checkFrom (now (table .entry)) l 0 (l .nodes) ⌝ }
 {
-    let mut i = 0;
-    let mut left = l.nodes;
-    while 0 < left {
-        if !good_node(table, l, i) {
-            return Checked::Bad {
-                why: Refusal::Record,
-                place: i,
-            };
-        }
-        i = i + 1;
-        left = left - 1;
+    let bad = first_bad(table, l);
+    if bad < l.nodes {
+        return Checked::Bad {
+            why: Refusal::Record,
+            place: bad,
+        };
     }
     Checked::Good { layout: l }
 }

@@ -3,7 +3,7 @@
 use mathlib.Core.Path.{_∙_}
 use native.Mathlib.Omega.{arith}
 use borrow.Author.Needs.{needs}
-use Rattle.table.proofs.Numbered.{no-kind, places-low, places-high, places-one, places-map, places-fields, places-variants}
+use Rattle.table.proofs.Numbered.{no-kind, places-high, places-one, places-map, places-fields, places-variants}
 use Rattle.table.proofs.good_places.Statement.{statement}
 use Rattle.table.proofs.good_places.Tie as tie
 
@@ -19,9 +19,6 @@ both-zero-requires c κs = search needs
 both-zero-requires-2 : tie.Need-both-zero-requires-2
 both-zero-requires-2 c κs = search needs
 
-both-zero-requires-3 : tie.Need-both-zero-requires-3
-both-zero-requires-3 c κs = search needs
-
 returns : tie.Need-returns
 returns c = places-map _ _ _ _ (c .match .keys1)
 
@@ -32,16 +29,16 @@ returns-3 : tie.Need-returns-3
 returns-3 c = c .good-variants .ensures ∙ places-variants _ _ _ _ (c .before .match .keys3)
 
 returns-4 : tie.Need-returns-4
-returns-4 c = c .both-zero .ensures ∙ places-low _ _ _ _ (omega arith)
+returns-4 c = places-one _ _ _ _ (omega arith) (omega arith)
 
 returns-5 : tie.Need-returns-5
-returns-5 c = places-one _ _ _ _ (omega arith) (omega arith)
+returns-5 c = c .both-zero .ensures ∙ places-high _ _ _ _ (omega arith) (omega arith)
 
 returns-6 : tie.Need-returns-6
 returns-6 c = c .both-zero2 .ensures ∙ places-high _ _ _ _ (omega arith) (omega arith)
 
 returns-7 : tie.Need-returns-7
-returns-7 c = c .both-zero3 .ensures ∙ places-high _ _ _ _ (omega arith) (omega arith)
+returns-7 c = absurd (omega arith)
 
 returns-8 : tie.Need-returns-8
 returns-8 c = no-kind _ _ _ _ (omega arith)
@@ -54,7 +51,6 @@ good-places-spec =
     good-variants-requires
     both-zero-requires
     both-zero-requires-2
-    both-zero-requires-3
     returns
     returns-2
     returns-3

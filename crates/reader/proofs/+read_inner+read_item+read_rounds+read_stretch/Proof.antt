@@ -1,7 +1,8 @@
--- The cycle of calls: an item, the rounds of the stretch that follows it, one round. The node's number falls from an item to those of its stretch.
+-- The cycle of calls: an item, one with children, the rounds of the stretch that follows it, one round. The node's number falls from an item to those of its stretch.
 -- Assumes nothing.
+use mathlib.Core.Logic.{⊎-elim}
 use mathlib.Core.Path.{_≡_, refl}
-use Prim.Native.Nat.{ℕ, _+_, _*_, _-_, _<_, _≤_}
+use Prim.Native.Nat.{ℕ, _+_, _*_, _<_, _≤_}
 use native.Mathlib.Omega.{arith}
 use lib.ListN.{length}
 use borrow.Author.Needs.{needs}
@@ -11,34 +12,88 @@ use Rattle.wire.specs.Answers.{roomOf}
 use Rattle.laws.proofs.Parts.{length-tail}
 use Rattle.table.specs.Parts.{Falls}
 use Rattle.table.proofs.Stretches.{falls-first, falls-next}
+use Rattle.table.proofs.kind_at.Reads as kind-at-reads
 use Rattle.table.proofs.u16_at.Reads as u16-at-reads
 use Rattle.reader.specs.Lay.{lay}
 use Rattle.reader.specs.Steps.{spot, readRow, readRounds}
+use Rattle.reader.proofs.Entering.{enters-full}
+use Rattle.reader.proofs.Laying.{gives-refused}
 use Rattle.reader.proofs.Rounds.{begun-full, begun-at}
-use Rattle.reader.proofs.Turns.{Went, item-goes, item-refused, item-end, item-on, turn-refused, turned, row-end, row-first, rounds-end, rounds-first, node-steady, row-steady}
+use Rattle.reader.proofs.Turns.{Went, item-goes, item-refused, item-end, item-on, leaf-gives, turn-refused, turned, row-end, row-first, rounds-end, rounds-first, node-steady, row-steady}
 use Rattle.reader.proofs.begin.Reads as begin-reads
 use Rattle.reader.proofs.enter.Reads as enter-reads
 use Rattle.reader.proofs.flat.Reads as flat-reads
+use Rattle.reader.proofs.read_leaf.Reads as read-leaf-reads
+use Rattle.reader.proofs.read_inner.Reads as read-inner
+use Rattle.reader.proofs.read_inner.Kinds as read-inner-kinds
+use Rattle.reader.proofs.+read_inner+read_item+read_rounds+read_stretch.Lts-read_inner as read-inner-lts
 use Rattle.reader.proofs.read_item.Reads as read-item
 use Rattle.reader.proofs.read_item.Kinds as read-item-kinds
-use Rattle.reader.proofs.+read_item+read_rounds+read_stretch.Lts-read_item as read-item-lts
+use Rattle.reader.proofs.+read_inner+read_item+read_rounds+read_stretch.Lts-read_item as read-item-lts
 use Rattle.reader.proofs.read_rounds.Reads as read-rounds
 use Rattle.reader.proofs.read_rounds.Kinds as read-rounds-kinds
-use Rattle.reader.proofs.+read_item+read_rounds+read_stretch.Lts-read_rounds as read-rounds-lts
+use Rattle.reader.proofs.+read_inner+read_item+read_rounds+read_stretch.Lts-read_rounds as read-rounds-lts
 use Rattle.reader.proofs.read_stretch.Reads as read-stretch
 use Rattle.reader.proofs.read_stretch.Kinds as read-stretch-kinds
-use Rattle.reader.proofs.+read_item+read_rounds+read_stretch.Lts-read_stretch as read-stretch-lts
-use Rattle.reader.proofs.+read_item+read_rounds+read_stretch.{statement}
-use Rattle.reader.proofs.+read_item+read_rounds+read_stretch.Tie.{close}
+use Rattle.reader.proofs.+read_inner+read_item+read_rounds+read_stretch.Lts-read_stretch as read-stretch-lts
+use Rattle.reader.proofs.+read_inner+read_item+read_rounds+read_stretch.{statement}
+use Rattle.reader.proofs.+read_inner+read_item+read_rounds+read_stretch.Tie.{close}
+
+abbrev μ-inner : Measures 3 read-inner-kinds.ps ℕ
+μ-inner κs a = a .1 .1 .0 * 4 + 2
 
 abbrev μ-item : Measures 3 read-item-kinds.ps ℕ
-μ-item κs a = a .1 .1 .0 * 3 + 2
+μ-item κs a = a .1 .1 .0 * 4 + 3
 
 abbrev μ-rounds : Measures 3 read-rounds-kinds.ps ℕ
-μ-rounds κs a = a .1 .1 .0 * 3 + 1
+μ-rounds κs a = a .1 .1 .0 * 4 + 1
 
 abbrev μ-stretch : Measures 3 read-stretch-kinds.ps ℕ
-μ-stretch κs a = a .1 .1 .0 * 3 + 0
+μ-stretch κs a = a .1 .1 .0 * 4 + 0
+
+-- ---- an item that has children
+
+module _ (t : ℕ) where
+  abbrev inner-at : In 3 read-inner-kinds.ps
+  inner-at = and 3 read-inner-kinds.ps (is 3 read-inner-kinds.ps μ-inner t) read-inner.Pre
+
+  abbrev inner-calls : read-inner-lts.Claims
+  inner-calls = (enter-reads.Asked, enter-reads.Learnt, flat-reads.Asked, flat-reads.Learnt, and 3 read-rounds-kinds.ps (falls 3 read-rounds-kinds.ps _<_ μ-rounds t) read-rounds.Pre, read-rounds.Post)
+
+  inner-enter-requires : read-inner-lts.Need-enter-requires inner-calls inner-at read-inner.Post
+  inner-enter-requires c κs = let p = c .before .before .before .before .pre .1 in (p .0, (p .1 .0, (p .1 .1 .0, p .1 .1 .1 .0)))
+
+  inner-add-after : read-inner-lts.Need-add-after inner-calls inner-at read-inner.Post
+  inner-add-after c = let g = item-goes (c .before .before .before .before .before .enter .ensures) (c .before .entered2 .given .1) in omega (arith, g .inside, c .before .before .before .before .before .before .before .before .before .before .pre .1 .1 .1 .1 .1)
+
+  inner-add-next : read-inner-lts.Need-add-next inner-calls inner-at read-inner.Post
+  unfolding roomOf
+  inner-add-next c = let g = item-goes (c .before .before .before .before .before .enter .ensures) (c .before .entered2 .given .1) in omega (arith, g .room)
+
+  inner-returns : read-inner-lts.Need-returns inner-calls inner-at read-inner.Post
+  inner-returns c = item-end (item-goes (c .before .before .before .before .before .before .before .enter .ensures) (c .before .before .before .entered2 .given .1)) (c .if1 .taken)
+
+  inner-flat-requires : read-inner-lts.Need-flat-requires inner-calls inner-at read-inner.Post
+  inner-flat-requires c κs =
+      let s = c .before .before .before .before .before .before .before .before .before .before .before .before in
+      (s .pre .1 .0, (omega (arith, s .pre .1 .1 .0), item-goes (c .before .before .before .before .before .before .before .enter .ensures) (c .before .before .before .entered2 .given .1) .falls))
+
+  inner-inside : (c : read-inner-lts.After-flat inner-calls inner-at read-inner.Post) → c .before .before .before .before .entered2 .given .0 .1 .0 ≤ length (c .before .before .before .before .before .before .before .before .before .before .before .before .before .args .part .now)
+  inner-inside c = item-goes (c .before .before .before .before .before .before .before .before .enter .ensures) (c .before .before .before .before .entered2 .given .1) .inside
+
+  inner-read-rounds-requires : read-inner-lts.Need-read-rounds-requires inner-calls inner-at read-inner.Post
+  inner-read-rounds-requires c κs =
+      let s = c .before .before .before .before .before .before .before .before .before .before .before .before .before .before .before in
+      let low : s .args .node * 4 + 1 < s .args .node * 4 + 2 = omega arith in (
+        rw (s .pre .0) at low,
+        (s .pre .1 .0, (omega (arith, s .pre .1 .1 .0), (c .before .before .flat .ensures .falls, omega (arith, inner-inside (c .before .before), s .pre .1 .1 .1 .1 .1, length-tail (s .args .part .now) (c .before .before .before .before .before .before .entered2 .given .0 .1 .0))))),
+      )
+
+  inner-returns-2 : read-inner-lts.Need-returns-2 inner-calls inner-at read-inner.Post
+  inner-returns-2 c = item-refused (c .before .before .before .before .before .enter .ensures) (c .before .entered .given .1)
+
+  inner-returns-3 : read-inner-lts.Need-returns-3 inner-calls inner-at read-inner.Post
+  inner-returns-3 c = item-on (item-goes (c .before .before .before .before .before .before .before .before .before .before .before .before .before .enter .ensures) (c .before .before .before .before .before .before .before .before .before .entered2 .given .1)) (c .before .before .before .before .before .flat .ensures) (c .before .before .read-rounds .ensures)
 
 -- ---- an item
 
@@ -47,43 +102,24 @@ module _ (t : ℕ) where
   item-at = and 3 read-item-kinds.ps (is 3 read-item-kinds.ps μ-item t) read-item.Pre
 
   abbrev item-calls : read-item-lts.Claims
-  item-calls = (enter-reads.Asked, enter-reads.Learnt, flat-reads.Asked, flat-reads.Learnt, and 3 read-rounds-kinds.ps (falls 3 read-rounds-kinds.ps _<_ μ-rounds t) read-rounds.Pre, read-rounds.Post)
-
-  item-enter-requires : read-item-lts.Need-enter-requires item-calls item-at read-item.Post
-  item-enter-requires c κs = c .before .before .before .before .pre .1
-
-  item-add-after : read-item-lts.Need-add-after item-calls item-at read-item.Post
-  item-add-after c = let g = item-goes (c .before .before .before .before .before .enter .ensures) (c .before .entered2 .given .1) in omega (arith, g .inside, c .before .before .before .before .before .before .before .before .before .before .pre .1 .1 .1)
-
-  item-add-next : read-item-lts.Need-add-next item-calls item-at read-item.Post
-  unfolding roomOf
-  item-add-next c = let g = item-goes (c .before .before .before .before .before .enter .ensures) (c .before .entered2 .given .1) in omega (arith, g .room)
+  item-calls = (kind-at-reads.Asked, kind-at-reads.Learnt, and 3 read-inner-kinds.ps (falls 3 read-inner-kinds.ps _<_ μ-inner t) read-inner.Pre, read-inner.Post, read-leaf-reads.Asked, read-leaf-reads.Learnt)
 
   item-returns : read-item-lts.Need-returns item-calls item-at read-item.Post
-  item-returns c = item-end (item-goes (c .before .before .before .before .before .before .before .enter .ensures) (c .before .before .before .entered2 .given .1)) (c .if1 .taken)
+  item-returns c = let s = c .before .before .before .before in gives-refused (enters-full _ _ _ (s .pre .1 .0) (s .pre .1 .1 .0) _ _ _ _ (c .if1 .taken))
 
-  item-flat-requires : read-item-lts.Need-flat-requires item-calls item-at read-item.Post
-  item-flat-requires c κs =
-      let s = c .before .before .before .before .before .before .before .before .before .before .before .before in
-      let g = item-goes (c .before .before .before .before .before .before .before .enter .ensures) (c .before .before .before .entered2 .given .1) in
-      (s .pre .1 .0, (omega (arith, s .pre .1 .1 .0), g .falls))
-
-  item-inside : (c : read-item-lts.After-flat item-calls item-at read-item.Post) → c .before .before .before .before .entered2 .given .0 .1 .0 ≤ length (c .before .before .before .before .before .before .before .before .before .before .before .before .before .args .part .now)
-  item-inside c = item-goes (c .before .before .before .before .before .before .before .before .enter .ensures) (c .before .before .before .before .entered2 .given .1) .inside
-
-  item-read-rounds-requires : read-item-lts.Need-read-rounds-requires item-calls item-at read-item.Post
-  item-read-rounds-requires c κs =
-      let s = c .before .before .before .before .before .before .before .before .before .before .before .before .before .before .before in
-      let low : s .args .node * 3 + 1 < s .args .node * 3 + 2 = omega arith in (
+  item-read-inner-requires : read-item-lts.Need-read-inner-requires item-calls item-at read-item.Post
+  item-read-inner-requires c κs =
+      let s = c .before .before .before .before .before .before .before .before in
+      let low : s .args .node * 4 + 2 < s .args .node * 4 + 3 = omega arith in (
         rw (s .pre .0) at low,
-        (s .pre .1 .0, (omega (arith, s .pre .1 .1 .0), (c .before .before .flat .ensures .falls, omega (arith, item-inside (c .before .before), s .pre .1 .1 .1, length-tail (s .args .part .now) (c .before .before .before .before .before .before .entered2 .given .0 .1 .0))))),
+        (s .pre .1 .0, (s .pre .1 .1 .0, (record { kind = c .before .before .before .kind-at .ensures; low = omega arith; high = omega arith }, (omega arith, s .pre .1 .1 .1)))),
       )
 
-  item-returns-2 : read-item-lts.Need-returns-2 item-calls item-at read-item.Post
-  item-returns-2 c = item-refused (c .before .before .before .before .before .enter .ensures) (c .before .entered .given .1)
-
   item-returns-3 : read-item-lts.Need-returns-3 item-calls item-at read-item.Post
-  item-returns-3 c = item-on (item-goes (c .before .before .before .before .before .before .before .before .before .before .before .before .before .enter .ensures) (c .before .before .before .before .before .before .before .before .before .entered2 .given .1)) (c .before .before .before .before .before .flat .ensures) (c .before .before .read-rounds .ensures)
+  item-returns-3 c =
+      let s = c .before .before .before .before .before .before .before .before .before .before in
+      leaf-gives _ _ _ (s .pre .1 .0) (s .pre .1 .1 .0) _ _ _ (c .before .before .before .before .before .kind-at .ensures)
+      (λ lo hi. ⊎-elim (λ w. omega arith) (λ w. omega (arith, w .1)) (c .before .before .before .before .if2 .came)) (s .pre .1 .1 .1) _ _ (omega arith) (c .before .before .read-leaf .ensures)
 
 -- ---- the rounds
 
@@ -182,17 +218,21 @@ module _ (t : ℕ) where
   stretch-returns-2 : read-stretch-lts.Need-returns-2 stretch-calls stretch-at read-stretch.Post stretch-Inv stretch-μ
   stretch-returns-2 c = row-end _ _ _ _ _ _ _ _ _ (c .before .loop .inv .0) (c .loop-test .left)
 
--- ---- all three
+-- ---- all four
 
-pub +read-item+read-rounds+read-stretch-spec : {M : Type 1} → statement M
-+read-item+read-rounds+read-stretch-spec =
-    close μ-item μ-rounds μ-stretch
+pub +read-inner+read-item+read-rounds+read-stretch-spec : {M : Type 1} → statement M
++read-inner+read-item+read-rounds+read-stretch-spec =
+    close μ-inner μ-item μ-rounds μ-stretch
+    (λ t.
+    read-inner-lts.spec (inner-calls t) (inner-at t) read-inner.Post
+    (inner-enter-requires t) (λ c. search needs) (λ c. search needs)
+    (inner-add-after t) (inner-add-next t) (λ c. search needs) (inner-returns t)
+    (inner-flat-requires t) (inner-inside t) (inner-inside t) (λ c. search needs) (inner-read-rounds-requires t)
+    (λ c. search needs) (inner-returns-2 t) (λ c. search needs) (inner-returns-3 t))
     (λ t.
     read-item-lts.spec (item-calls t) (item-at t) read-item.Post
-    (item-enter-requires t) (λ c. search needs) (λ c. search needs)
-    (item-add-after t) (item-add-next t) (λ c. search needs) (item-returns t)
-    (item-flat-requires t) (item-inside t) (item-inside t) (λ c. search needs) (item-read-rounds-requires t)
-    (λ c. search needs) (item-returns-2 t) (λ c. search needs) (item-returns-3 t))
+    (item-returns t) (λ c κs. search needs) (item-read-inner-requires t) (λ c κs. search needs)
+    (λ c. search needs) (λ c. c .before .before .read-inner .ensures) (λ c. search needs) (item-returns-3 t))
     (λ t.
     read-rounds-lts.spec (rounds-calls t) (rounds-at t) read-rounds.Post rounds-Inv rounds-μ
     (λ c. (refl, refl, refl)) (λ c κs. search needs) (λ c. search needs) (λ c. search needs) (λ c. search needs) (rounds-returns t)

@@ -1,4 +1,4 @@
-// Writing a value list by a table: one pass judges the list and measures its form, and a second one writes what was judged.
+// Writing a value list by a table: one pass judges the list and measures its form, and a second one writes what was judged, but for a short form, which the first kept.
 use table::Stretch;
 use wire::Checked;
 use wire::Layout;
@@ -144,7 +144,7 @@ fn put_varint(x: u64, out: &mut [u8], used: usize) -> usize
         let size = varint::size(x);
         return add(used, size);
     }
-    if 10 <= len - used {
+    if varint::U64::MOST <= len - used {
         return put_inside(x, out, used);
     }
     let n = varint::put(out, used, x);

@@ -136,15 +136,36 @@ pub fn put(out: &mut [u8], at: usize, x: u64) -> usize
     n + 1
 }
 
-// How many bytes the shortest form of `x` has.
+// How many bytes the shortest form of `x` has: seven bits each, with no loop, since a writer asks this of every number first.
 pub fn size(x: u64) -> usize
     ensures { λ r. ⌜ r ≡ length (shortest x) ⌝ }
 {
-    let mut n: usize = 0;
-    let mut rest = x;
-    while 128 <= rest {
-        rest = rest / 128;
-        n = n + 1;
+    if x < 0x80 {
+        return 1;
     }
-    n + 1
+    if x < 0x4000 {
+        return 2;
+    }
+    if x < 0x20_0000 {
+        return 3;
+    }
+    if x < 0x1000_0000 {
+        return 4;
+    }
+    if x < 0x8_0000_0000 {
+        return 5;
+    }
+    if x < 0x400_0000_0000 {
+        return 6;
+    }
+    if x < 0x2_0000_0000_0000 {
+        return 7;
+    }
+    if x < 0x100_0000_0000_0000 {
+        return 8;
+    }
+    if x < 0x8000_0000_0000_0000 {
+        return 9;
+    }
+    10
 }

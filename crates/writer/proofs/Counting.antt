@@ -50,6 +50,9 @@ sets-cap l i s h =
 pub puts-none : (u : ℕ) (out : List ℕ) → u < 2 ^ 64 → Puts [] u out u out
 puts-none u out h = record { counted = sym (ap cap (add-zero u) ∙ cap-small u h); stored = refl }
 
+pub puts-beyond : {s : List ℕ} {u k n : ℕ} {out : List ℕ} → length out ≤ u → k ≡ length s → n ≡ cap (u + k) → Puts s u out n out
+puts-beyond {s} {u} {k} {n} {out} h e f = record { counted = f ∙ ap (λ j. cap (u + j)) e; stored = sym (sets-out s out u h) }
+
 pub puts-both : {s t : List ℕ} {u n m : ℕ} {out mid end : List ℕ} → length out < 2 ^ 63 → Puts s u out n mid → Puts t n mid m end → Puts (s ++ t) u out m end
 puts-both {s} {t} {u} {n} {m} {out} {mid} {end} h p q =
     let long : length mid ≡ length out = ap length (p .stored) ∙ length-sets out u s in

@@ -13,7 +13,7 @@ use Rattle.writer.proofs.Counting.{puts-none, puts-both}
 
 -- ---- bytes in front
 
-after-none : (w : Wrote) → after [] w ≡ w
+pub after-none : (w : Wrote) → after [] w ≡ w
 unfolding after
 after-none (wrote s x) = refl
 after-none (misfit i) = refl
@@ -50,7 +50,7 @@ module _ {w rest : Wrote} {u : ℕ} {before : List ℕ} {n : ℕ} {out : List �
   going-on {last} d =
       record { bytes = g .bytes ++ d .bytes; is = g .is ∙ ap (after (g .bytes)) (d .is) ∙ after-after (g .bytes) (d .bytes) last; puts = puts-both small (g .puts) (d .puts) }
 
-  no-going-on : {i : ℕ} → rest ≡ misfit i → w ≡ misfit i
+  pub no-going-on : {i : ℕ} → rest ≡ misfit i → w ≡ misfit i
   unfolding after
   no-going-on e = g .is ∙ ap (after (g .bytes)) e
 

@@ -6,5 +6,6 @@ pub mod Sixths
 pub mod Judging
 pub mod Spelling
 pub mod Nodes
+pub mod Rounds
 pub mod Promised
 pub mod RoundTrips

@@ -1,4 +1,5 @@
--- A list that was judged is refused, or is written: the count is exact where it is compared with the output, and nothing else was changed.
+-- A list that was judged is refused, or is written: the count is exact where it is compared with the output, and nothing else was changed. The form
+-- stands where it was put to be judged, if that has room for it.
 -- Assumes nothing.
 use mathlib.Core.Path.{_≡_, refl, sym, ap, _∙_}
 use mathlib.Core.Bool.{true}
@@ -6,9 +7,9 @@ use mathlib.Core.List.{List, [], _++_, append-nil}
 use Prim.Native.Nat.{ℕ, _/_, _%_, _^_, _<_, _≤_}
 use native.Mathlib.Omega.{arith}
 use native.Mathlib.Nat.{zero-add}
-use lib.ListN.{length, drop}
+use lib.ListN.{length, take, drop}
 use lib.Dec.{leb}
-use lib.Seq.{sets, sets-eq}
+use lib.Seq.{sets, sets-eq, take-append-seam}
 use borrow.Author.Tests.{le-leb, lt-leb, eq-eqb, ne-eqb}
 use Rattle.wire.specs.declared.Refusal.{Refusal}
 use Rattle.wire.specs.declared.Refusal.the-variants.{Values, Full}
@@ -24,7 +25,7 @@ use Rattle.writer.specs.declared.Put.{Put}
 use Rattle.writer.specs.declared.Put.the-variants as put
 use Rattle.writer.specs.Bytes.{cap, Puts}
 use Rattle.writer.specs.Steps.{entries, Sure, Going, GivesBy, Gives}
-use Rattle.writer.specs.Promise.{Judged, Writes, OneWriting}
+use Rattle.writer.specs.Promise.{Writes, OneWriting}
 use Rattle.writer.proofs.Counting.{cap-above, cap-within}
 use Rattle.writer.proofs.Entries.{entries-none, entries-more}
 
@@ -50,14 +51,15 @@ module _ {w : Wrote} {ws : List ℕ} {u : ℕ} {before : List ℕ} {r : Put} {ou
   not-put : {i : ℕ} → r ≡ put.Misfit i → w ≡ misfit i
   not-put q = rw q at (g .holds)
 
-module _ {w : Wrote} {ws : List ℕ} {r : Put} (out : List ℕ) (j : Judged w ws r) where
+-- it was judged by putting it in front of some bytes
+module _ {w : Wrote} {ws before : List ℕ} {r : Put} {after : List ℕ} (out : List ℕ) (j : Gives w ws 0 before r after) where
   pub judged-misfit : {i : ℕ} → r ≡ put.Misfit i → Writes (formed (length out) w) out (Refused Values i) out
   unfolding formed
-  judged-misfit q = writes-no out (ap (formed (length out)) (not-put (j .gives) q))
+  judged-misfit q = writes-no out (ap (formed (length out)) (not-put j q))
 
   module _ {at n : ℕ} (q : r ≡ put.Done at n) where
-    did : AllPut w ws 0 (j .before) at n (j .after)
-    did = all-put (j .gives) q
+    did : AllPut w ws 0 before at n after
+    did = all-put j q
 
     pub judged-sure : Sure true w
     judged-sure = record { never = λ t i e. let z : wrote (did .bytes) (entries ws at) ≡ misfit i = sym (did .is) ∙ e in let o : _≡_ {A = ℕ} 0 1 = cc in omega arith }
@@ -84,6 +86,24 @@ module _ {w : Wrote} {ws : List ℕ} {r : Put} (out : List ℕ) (j : Judged w ws
         exact : n ≡ length (did .bytes)
         exact = count ∙ cap-within (length (did .bytes)) (length out) small (rw (← count) m)
 
+        stored : {left : List ℕ} → left ≡ sets out 0 (did .bytes) → Writes (formed (length out) w) out (Done n) left
+        unfolding pick writeAnswer outWith
+        stored e =
+            rw (is-form, le-leb (length (did .bytes)) (length out) (omega (arith, exact)))
+            (record {
+              answered = ap Done exact;
+              stored = e ∙ sets-eq (did .bytes) out 0 (omega (arith, exact)) ∙ ap (λ k. did .bytes ++ drop k out) (zero-add (length (did .bytes)));
+            })
+
+        front : n ≤ length before → take n after ≡ did .bytes
+        front h =
+            ap (λ k. take k after) exact
+            ∙ ap (take (length (did .bytes))) (did .puts .stored ∙ sets-eq (did .bytes) before 0 (omega (arith, exact)))
+            ∙ take-append-seam (did .bytes) _
+
+        pub judged-short : n ≤ length before → {k : ℕ} {left : List ℕ} → Puts (take n after) 0 out k left → Writes (formed (length out) w) out (Done n) left
+        judged-short h p = stored (p .stored ∙ ap (sets out 0) (front h))
+
         put-whole : (p : Put) (left : List ℕ) → GivesBy w ws 0 out p left → left ≡ sets out 0 (did .bytes)
         put-whole (put.Done i k) left d =
             let g : AllPut w ws 0 out i k left = all-put (record { holds = d }) refl in
@@ -93,15 +113,7 @@ module _ {w : Wrote} {ws : List ℕ} {r : Put} (out : List ℕ) (j : Judged w ws
         put-whole (put.Misfit i) left d = absurd (judged-sure .never refl i d)
 
         pub judged-done : {p : Put} {left : List ℕ} → Gives w ws 0 out p left → Writes (formed (length out) w) out (Done n) left
-        unfolding pick writeAnswer outWith
-        judged-done {p} {left} g =
-            rw (is-form, le-leb (length (did .bytes)) (length out) (omega (arith, exact)))
-            (record {
-              answered = ap Done exact;
-              stored =
-                  put-whole p left (g .holds) ∙ sets-eq (did .bytes) out 0 (omega (arith, exact))
-                  ∙ ap (λ k. did .bytes ++ drop k out) (zero-add (length (did .bytes)));
-            })
+        judged-done {p} {left} g = stored (put-whole p left (g .holds))
 
 -- ---- with the table's check
 

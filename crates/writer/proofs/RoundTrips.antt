@@ -1,6 +1,6 @@
 -- The bytes in front of the output are the form of the list, and that is read back: `promises` proves it of the definitions.
 -- Assumes nothing.
-use mathlib.Core.Path.{_≡_, refl, sym, ap, _∙_}
+use mathlib.Core.Path.{_≡_, refl}
 use mathlib.Core.List.{List, _++_}
 use Prim.Native.Nat.{ℕ}
 use native.Mathlib.Omega.{arith}
@@ -9,7 +9,6 @@ use lib.Seq.{take-append-seam, drop-append-seam}
 use Rattle.wire.specs.declared.ReadAnswer.{ReadAnswer}
 use Rattle.wire.specs.declared.ReadAnswer.the-variants.{Done as Read}
 use Rattle.wire.specs.declared.WriteAnswer.the-variants.{Done as Written}
-use Rattle.wire.specs.Reading.{reached}
 use Rattle.wire.specs.Answers.{reads, readAnswer, restOf, storeWith, Form, form, noForm, writes, writeAnswer, outWith}
 use Rattle.promises.specs.RoundTrip.{ReadBack}
 use Rattle.promises.proofs.RoundTrips.{round-trip}

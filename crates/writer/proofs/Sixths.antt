@@ -5,11 +5,10 @@ use Prim.Native.Nat.{ℕ, zero, suc, _+_, _-_, _%_, _<_, _≤_}
 use native.Mathlib.Omega.{arith}
 use borrow.Author.Tests.{lt-ltb, le-ltb, ne-eqb}
 use Rattle.wire.specs.Tests.{pick}
-use Rattle.wire.specs.Shape.{Width, w16, w32, w64, bits, Order, le, be, signed, unsigned, int, fixed, plain}
+use Rattle.wire.specs.Shape.{w16, w32, w64, Order, le, be, signed, unsigned, int, fixed, plain}
 use Rattle.wire.specs.Table.{kinds, kindOf}
 use Rattle.laws.specs.KindRanges.{sixth}
 use Rattle.laws.proofs.KindRanges.{little-kind, big-kind}
-use Rattle.zigzag.specs.Widths.{widthOf}
 use Rattle.writer.specs.Own.{signAt, widthAt}
 
 -- ---- the k-th's sign and width
@@ -33,12 +32,6 @@ width-32 k h = rw h
 pub width-64 : (k : ℕ) → (k % 3 ≡ 0 → ⊥) → (k % 3 ≡ 1 → ⊥) → widthAt k ≡ w64
 unfolding widthAt pick
 width-64 k f g = rw (ne-eqb (k % 3) 0 f, ne-eqb (k % 3) 1 g)
-
-pub is-width : (w : Width) → widthOf (bits w) ≡ bits w
-unfolding widthOf bits pick
-is-width w16 = refl
-is-width w32 = refl
-is-width w64 = refl
 
 -- ---- their kinds
 

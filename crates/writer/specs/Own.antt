@@ -4,7 +4,7 @@ use mathlib.Core.Path.{_≡_}
 use mathlib.Core.Bool.{Bool, true, false}
 use mathlib.Core.List.{List}
 use mathlib.Core.Option.{Option, some, none}
-use Prim.Native.Nat.{ℕ, _%_}
+use Prim.Native.Nat.{ℕ, _%_, _<_, _≤_}
 use lib.Dec.{ltb, eqb}
 use Rattle.wire.specs.Tests.{pick}
 use Rattle.wire.specs.Shape.{Width, w16, w32, w64, Sign, signed, unsigned, Kind}
@@ -17,6 +17,11 @@ signAt k = pick (ltb k 3) signed unsigned
 
 unfoldable pub widthAt : ℕ → Width
 widthAt k = pick (eqb (k % 3) 0) w16 (pick (eqb (k % 3) 1) w32 w64)
+
+-- the number of a kind without children
+pub record IsLeaf (k : ℕ) : Type 0 where
+  pub small : k < 32
+  pub outer : 15 ≤ k → k ≤ 19 → ⊥
 
 unfoldable pub isSome : Option (List ℕ) → Bool
 isSome (some s) = true
@@ -35,6 +40,10 @@ pub record Judges (k : Kind) (n a : ℕ) (r : Bool) : Type 0 where
 -- and any number of children
 pub record JudgesLeaf (k : Kind) (a : ℕ) (r : Bool) : Type 0 where
   pub with : (n : ℕ) → Judges k n a r
+
+-- that of an item with n children, with any second word, unless it was judged
+pub record Lets (judged : Bool) (k : Kind) (n a b : ℕ) (r : Bool) : Type 0 where
+  pub at : (pool : List ℕ) → Known judged (headBytes k n pool a b) → r ≡ isSome (headBytes k n pool a b)
 
 -- ---- the bytes of an entry that some value has
 

@@ -5,17 +5,8 @@ use mathlib.Core.List.{List}
 use Prim.Native.Nat.{ℕ}
 use lib.ListN.{length}
 use Rattle.wire.specs.declared.WriteAnswer.{WriteAnswer}
-use Rattle.wire.specs.Writing.{Wrote}
 use Rattle.wire.specs.Answers.{Form, writes, writeAnswer, outWith}
 use Rattle.laws.specs.Unique.{Unique}
-use Rattle.writer.specs.declared.Put.{Put}
-use Rattle.writer.specs.Steps.{Gives}
-
--- a list was judged by writing it to some bytes
-pub record Judged (w : Wrote) (ws : List ℕ) (r : Put) : Type 0 where
-  pub before : List ℕ
-  pub after : List ℕ
-  pub gives : Gives w ws 0 before r after
 
 -- the answer, and the output as it is left, are those of a form
 pub record Writes (f : Form) (out : List ℕ) (a : WriteAnswer) (left : List ℕ) : Type 0 where

@@ -1,14 +1,15 @@
 -- Writing as the code goes through it: nodes whose numbers stand one after the other in the table, gone through so often.
 -- Assumes nothing.
 use mathlib.Core.Path.{_≡_}
-use mathlib.Core.Bool.{Bool, true}
+use mathlib.Core.Bool.{Bool, true, false}
 use mathlib.Core.List.{List, []}
 use Prim.Native.Nat.{ℕ, _+_, _*_, _/_, _<_}
 use lib.ListN.{length, drop}
 use Rattle.wire.specs.declared.Layout.{Layout}
+use Rattle.wire.specs.Shape.{Kind, struct}
 use Rattle.wire.specs.Walk.{times}
 use Rattle.wire.specs.Table.{shapesAt}
-use Rattle.wire.specs.Writing.{Left, Wrote, wrote, misfit, after, writing, write}
+use Rattle.wire.specs.Writing.{Left, Wrote, wrote, misfit, after, writeNothing, writeItem, writing, write}
 use Rattle.wire.specs.Answers.{wordsPer, entriesOf}
 use Rattle.laws.specs.Steps.{row}
 use Rattle.laws.specs.Tables.{nodeShape}
@@ -18,21 +19,33 @@ use Rattle.writer.specs.declared.Put.{Put}
 use Rattle.writer.specs.declared.Put.the-variants.{Done, Misfit}
 use Rattle.writer.specs.declared.Entered.{Entered}
 use Rattle.writer.specs.declared.Entered.the-variants as entered
+use Rattle.writer.specs.declared.Way.{Way}
+use Rattle.writer.specs.declared.Begun.{Begun}
+use Rattle.writer.specs.declared.Begun.the-variants as begun
 use Rattle.writer.specs.Bytes.{Puts}
 
 -- a value list's entries from the i-th on
 unfoldable pub entries : List ℕ → ℕ → Left
 entries ws i = record { at = i; entries = entriesOf (drop (wordsPer * i) ws) }
 
--- one node, nodes one after the other, and such a row so many times over
+-- a leaf, one node, and nodes one after the other
+unfoldable pub writeLeaf : Kind → (pool : List ℕ) → Left → Wrote
+writeLeaf k pool = writeItem pool k 0 (λ a. writeNothing)
+
 unfoldable pub writeNode : List ℕ → Layout → (pool : List ℕ) → ℕ → Left → Wrote
 writeNode s l pool i = write (nodeShape s l i) pool
 
 unfoldable pub writeRow : List ℕ → Layout → (pool : List ℕ) → (from n : ℕ) → Left → Wrote
 writeRow s l pool from n = row (writing pool) (shapesAt (nodeShape s l) s from n)
 
-unfoldable pub writeRounds : List ℕ → Layout → (pool : List ℕ) → (rounds from n : ℕ) → Left → Wrote
-writeRounds s l pool c from n = times (writing pool) c (writeRow s l pool from n)
+-- a step as it stands, or as that of a struct's n fields
+unfoldable pub headed : Bool → (pool : List ℕ) → (n : ℕ) → (Left → Wrote) → Left → Wrote
+headed true pool n f = writeItem pool struct n (λ a. f)
+headed false pool n f = f
+
+-- such a row so many times over
+unfoldable pub writeRounds : List ℕ → Layout → (pool : List ℕ) → (rounds : ℕ) (h : Bool) (from n : ℕ) → Left → Wrote
+writeRounds s l pool c h from n = times (writing pool) c (headed h pool n (writeRow s l pool from n))
 
 -- a list that was judged has no misfit
 pub record Sure (judged : Bool) (w : Wrote) : Type 0 where
@@ -56,7 +69,7 @@ pub record Gives (w : Wrote) (ws : List ℕ) (u : ℕ) (before : List ℕ) (r : 
 pub record Goes (w : Wrote) (s : List ℕ) (l : Layout) (pool : List ℕ) (i : ℕ) (ws : List ℕ) (at u : ℕ) (before : List ℕ) (to : Stretch) (n : ℕ) (out : List ℕ) : Type 0 where
   pub more : at < length ws / wordsPer
   pub falls : Falls s (to .from) (to .width) i
-  pub going : Going w (writeRounds s l pool (to .rounds) (to .from) (to .width) (entries ws (at + 1))) u before n out
+  pub going : Going w (writeRounds s l pool (to .rounds) false (to .from) (to .width) (entries ws (at + 1))) u before n out
 
 abbrev pub EntersBy : Wrote → List ℕ → Layout → (pool : List ℕ) → (i : ℕ) → (ws : List ℕ) → (at u : ℕ) → (before : List ℕ) → Entered → List ℕ → Type 0
 EntersBy w s l pool i ws at u before (entered.On to n) out = Goes w s l pool i ws at u before to n out
@@ -64,3 +77,16 @@ EntersBy w s l pool i ws at u before entered.Misfit out = w ≡ misfit at
 
 pub record Enters (w : Wrote) (s : List ℕ) (l : Layout) (pool : List ℕ) (i : ℕ) (ws : List ℕ) (at u : ℕ) (before : List ℕ) (r : Entered) (out : List ℕ) : Type 0 where
   pub holds : EntersBy w s l pool i ws at u before r out
+
+-- a way of numbers below i that is the same step as a row
+pub record Flat (s : List ℕ) (l : Layout) (i from n : ℕ) (way : Way) : Type 0 where
+  pub falls : Falls s (way .from) (way .width) i
+  pub same : (pool : List ℕ) → writeRow s l pool from n ≡ headed (way .headed) pool (way .width) (writeRow s l pool (way .from) (way .width))
+
+-- a round begins behind the entry that heads it, or that entry is a misfit
+abbrev pub BeginsBy : Bool → List ℕ → ℕ → Begun → (pool : List ℕ) → (n : ℕ) → (Left → Wrote) → Type 0
+BeginsBy h ws at (begun.At b) pool n f = headed h pool n f (entries ws at) ≡ f (entries ws b)
+BeginsBy h ws at begun.Misfit pool n f = headed h pool n f (entries ws at) ≡ misfit at
+
+pub record Begins (h : Bool) (ws : List ℕ) (at : ℕ) (r : Begun) : Type 0 where
+  pub holds : (pool : List ℕ) (n : ℕ) (f : Left → Wrote) → BeginsBy h ws at r pool n f

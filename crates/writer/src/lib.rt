@@ -1,4 +1,4 @@
-// Writing a value list by a table: one pass judges the list and measures its form, and a second one writes what was judged.
+// Writing a value list by a table: one pass judges the list and measures its form, and a second one writes what was judged, but for a short form, which the first kept.
 use table::Stretch;
 use wire::Checked;
 use wire::Layout;
@@ -7,7 +7,7 @@ use wire::WriteAnswer;
 ghost use mathlib.Core.Path.{_≡_};
 ghost use mathlib.Core.Bool.{true, false};
 ghost use mathlib.Core.List.{[], _∷_};
-ghost use Prim.Native.Nat.{_+_, _%_, _<_, _≤_};
+ghost use Prim.Native.Nat.{_+_, _/_, _%_, _<_, _≤_};
 ghost use lib.ListN.{length};
 ghost use lib.Dec.{ltb, leb};
 ghost use Rattle.wire.specs.declared.Checked.the-variants.{Good};
@@ -15,7 +15,7 @@ ghost use Rattle.wire.specs.Tests.{both};
 ghost use Rattle.wire.specs.Shape.{bits, size, w16, w32, w64, unsigned};
 ghost use Rattle.wire.specs.Numbers.{shortest, isWord, littleBytes, inOrder};
 ghost use Rattle.wire.specs.Text.{isChar, charBytes};
-ghost use Rattle.wire.specs.Table.{kindOf, shapeOf};
+ghost use Rattle.wire.specs.Table.{kindOf, nodeAt, recordOf, shapeOf};
 ghost use Rattle.wire.specs.Table.{check as checkOf};
 ghost use Rattle.wire.specs.Values.{isPooled};
 ghost use Rattle.wire.specs.Values.{part as partOf};
@@ -29,11 +29,14 @@ ghost use Rattle.fixint.specs.Sizes.{orderOf};
 ghost use Rattle.utf8.specs.Contents.{contentIf};
 ghost use Rattle.table.specs.Parts.{Falls};
 ghost use Rattle.writer.specs.Bytes.{cap, Places, Puts};
-ghost use Rattle.writer.specs.Own.{signAt, widthAt, isSome, Known, JudgesLeaf, Judges, Fits, Spells, SpellsEntry};
-ghost use Rattle.writer.specs.Steps.{entries, writeNode, writeRow, writeRounds, Sure, Gives, Enters};
-ghost use Rattle.writer.specs.Promise.{Judged, Writes};
+ghost use Rattle.writer.specs.Own.{signAt, widthAt, isSome, IsLeaf, Known, JudgesLeaf, Judges, Lets, Fits, Spells, SpellsEntry};
+ghost use Rattle.writer.specs.Steps.{entries, writeLeaf, writeNode, writeRow, writeRounds, Sure, Gives, Enters, Flat, Begins};
+ghost use Rattle.writer.specs.Promise.{Writes};
 
 const LARGEST: usize = 0xffff_ffff_ffff_ffff;
+
+// So long is a form that the first pass keeps.
+const SHORT: usize = 64;
 
 // How far a list is written: the next entry and how many bytes there are now; or the entry that does not fit.
 enum Put {
@@ -44,6 +47,19 @@ enum Put {
 // What an entry leaves to do: the stretch that follows it, and how many bytes there are now; or that no value has it.
 enum Entered {
     On { to: Stretch, used: usize },
+    Misfit,
+}
+
+// A stretch as its rounds go, and whether the entry of a struct heads each of them.
+struct Way {
+    headed: bool,
+    from: usize,
+    width: usize,
+}
+
+// Where the nodes of a round begin; or that no value has the entry that heads it.
+enum Begun {
+    At { at: usize },
     Misfit,
 }
 
@@ -101,9 +117,36 @@ fn put_byte(b: u8, out: &mut [u8], used: usize) -> usize
     end
 }
 
+// A varint, where even the longest has its places.
+fn put_inside(x: u64, out: &mut [u8], used: usize) -> usize
+    requires { ⌜ used + 10 ≤ length (now out) ⌝ }
+    ensures { λ r. ⌜ Puts (shortest x) used (now (out .entry)) r (now (out .exit)) ⌝ }
+{
+    let mut at = used;
+    let mut rest = x;
+    while 128 <= rest {
+        let b = (rest % 128 + 128) as u8;
+        out[at] = b;
+        rest = rest / 128;
+        at = at + 1;
+    }
+    let b = rest as u8;
+    out[at] = b;
+    at + 1
+}
+
+// Most have all their places or, in the first pass, none; each place is tested only between the two.
 fn put_varint(x: u64, out: &mut [u8], used: usize) -> usize
     ensures { λ r. ⌜ Puts (shortest x) used (now (out .entry)) r (now (out .exit)) ⌝ }
 {
+    let len = out.len();
+    if len <= used {
+        let size = varint::size(x);
+        return add(used, size);
+    }
+    if varint::U64::MOST <= len - used {
+        return put_inside(x, out, used);
+    }
     let n = varint::put(out, used, x);
     add(used, n)
 }
@@ -139,16 +182,6 @@ fn put_part(first: u64, second: u64, pool: &[u8], out: &mut [u8], used: usize) -
 
 // ---- six integers, in the order of their kinds: signed of 16, 32 and 64 bits, and then unsigned
 
-fn bits_of(k: u8) -> u64
-    ensures { λ r. ⌜ r ≡ bits (widthAt k) ⌝ }
-{
-    match k % 3 {
-        0 => 16,
-        1 => 32,
-        _ => 64,
-    }
-}
-
 // Whether a word stands for an unsigned number of so many bits. Any that is no width stands for 64.
 fn is_unsigned(bits: u64, first: u64) -> bool
     ensures { λ r. ⌜ r ≡ isWord unsigned (widthOf bits) first ⌝ }
@@ -163,13 +196,17 @@ fn is_unsigned(bits: u64, first: u64) -> bool
 
 // Whether a word stands for a number of the k-th.
 fn is_sixth(k: u8, first: u64) -> bool
+    requires { ⌜ k ≤ 5 ⌝ }
     ensures { λ r. ⌜ r ≡ isWord (signAt k) (bits (widthAt k)) first ⌝ }
 {
-    let bits = bits_of(k);
-    if k < 3 {
-        return zigzag::is_signed(bits, first);
+    match k {
+        0 => zigzag::is_signed(16, first),
+        1 => zigzag::is_signed(32, first),
+        2 => zigzag::is_signed(64, first),
+        3 => is_unsigned(16, first),
+        4 => is_unsigned(32, first),
+        _ => true,
     }
-    is_unsigned(bits, first)
 }
 
 fn two(first: u64, big: bool) -> [u8; 2]
@@ -233,52 +270,39 @@ fn fits_signed(number: u8, first: u64) -> bool
     }
 }
 
-// An unsigned integer's or a float's.
+// That of an unsigned integer of a byte or written as a varint.
 fn fits_unsigned(number: u8, first: u64) -> bool
-    requires { ⌜ (5 ≤ number) × (number ≤ 10) ⌝ }
+    requires { ⌜ (5 ≤ number) × (number ≤ 8) ⌝ }
     ensures { λ r. ⌜ JudgesLeaf (kindOf number) first r ⌝ }
 {
     match number {
         5 => is_unsigned(8, first),
-        9 => is_unsigned(32, first),
-        10 => true,
         _ => is_sixth(number - 3, first),
     }
 }
 
-fn is_variant(width: usize, first: u64) -> bool
-    ensures { λ r. ⌜ r ≡ both (ltb first width) (isWord unsigned 32 first) ⌝ }
-{
-    if first < width as u64 {
-        return first < 0x1_0000_0000;
-    }
-    false
-}
-
-// That of an item with so many children.
-fn fits_inner(number: u8, width: usize, first: u64) -> bool
-    requires { ⌜ (15 ≤ number) × (number ≤ 19) ⌝ }
-    ensures { λ r. ⌜ Judges (kindOf number) width first r ⌝ }
-{
-    match number {
-        15 => first <= 1,
-        18 => first == 0,
-        19 => is_variant(width, first),
-        _ => true,
-    }
-}
-
-// Any but a text's and bytes', whose second word is 0.
-fn fits_number(number: u8, width: usize, first: u64) -> bool
-    requires { ⌜ (number < 32) × (isPooled (kindOf number) ≡ false) ⌝ }
-    ensures { λ r. ⌜ Judges (kindOf number) width first r ⌝ }
+fn fits_int(number: u8, first: u64) -> bool
+    requires { ⌜ number ≤ 8 ⌝ }
+    ensures { λ r. ⌜ JudgesLeaf (kindOf number) first r ⌝ }
 {
     match number {
         0..=4 => fits_signed(number, first),
-        5..=10 => fits_unsigned(number, first),
+        _ => fits_unsigned(number, first),
+    }
+}
+
+// That of another leaf but a text and bytes.
+fn fits_other(number: u8, first: u64) -> bool
+    requires { ⌜ IsLeaf number ⌝ }
+    requires { ⌜ 9 ≤ number ⌝ }
+    requires { ⌜ isPooled (kindOf number) ≡ false ⌝ }
+    ensures { λ r. ⌜ JudgesLeaf (kindOf number) first r ⌝ }
+{
+    match number {
+        9 => is_unsigned(32, first),
+        10 => true,
         11 => utf8::is_char(first),
         12..=14 => first == 0,
-        15..=19 => fits_inner(number, width, first),
         20..=25 => is_sixth(number - 20, first),
         26..=31 => is_sixth(number - 26, first),
         _ => false,
@@ -301,25 +325,76 @@ fn fits_part(first: u64, second: u64, pool: &[u8], text: bool) -> bool
     utf8::is_content(&pool[start..end], text)
 }
 
-// Any. One that was judged is not judged again.
-fn fits(number: u8, width: usize, first: u64, second: u64, pool: &[u8], judged: bool) -> bool
-    requires { ⌜ number < 32 ⌝ }
-    requires { ⌜ Known judged (headBytes (kindOf number) width (now pool) first second) ⌝ }
-    ensures { λ r. ⌜ r ≡ isSome (headBytes (kindOf number) width (now (pool .entry)) first second) ⌝ }
+// That of another leaf: but for a text and bytes, the second word is 0.
+fn fits_rest(number: u8, first: u64, second: u64, pool: &[u8]) -> bool
+    requires { ⌜ IsLeaf number ⌝ }
+    requires { ⌜ 9 ≤ number ⌝ }
+    ensures { λ r. ⌜ r ≡ isSome (headBytes (kindOf number) 0 (now (pool .entry)) first second) ⌝ }
 {
-    if judged {
-        return true;
-    }
     match number {
         12 => fits_part(first, second, pool, true),
         13 => fits_part(first, second, pool, false),
         _ => {
             if second == 0 {
-                return fits_number(number, width, first);
+                return fits_other(number, first);
             }
             false
         }
     }
+}
+
+// Any leaf's. One that was judged is not judged again. The integers stand first, as the most usual.
+fn fits_leaf(number: u8, first: u64, second: u64, pool: &[u8], judged: bool) -> bool
+    requires { ⌜ IsLeaf number ⌝ }
+    requires { ⌜ Known judged (headBytes (kindOf number) 0 (now pool) first second) ⌝ }
+    ensures { λ r. ⌜ r ≡ isSome (headBytes (kindOf number) 0 (now (pool .entry)) first second) ⌝ }
+{
+    if judged {
+        return true;
+    }
+    if 9 <= number {
+        return fits_rest(number, first, second, pool);
+    }
+    if second == 0 {
+        return fits_int(number, first);
+    }
+    false
+}
+
+fn is_variant(width: usize, first: u64) -> bool
+    ensures { λ r. ⌜ r ≡ both (ltb first width) (isWord unsigned 32 first) ⌝ }
+{
+    if first < width as u64 {
+        return first < 0x1_0000_0000;
+    }
+    false
+}
+
+// That of an item with so many children, whose second word is 0.
+fn fits_first(number: u8, width: usize, first: u64) -> bool
+    requires { ⌜ (15 ≤ number) × (number ≤ 19) ⌝ }
+    ensures { λ r. ⌜ Judges (kindOf number) width first r ⌝ }
+{
+    match number {
+        15 => first <= 1,
+        18 => first == 0,
+        19 => is_variant(width, first),
+        _ => true,
+    }
+}
+
+// That of an item with so many children. One that was judged is not judged again.
+fn fits_inner(number: u8, width: usize, first: u64, second: u64, judged: bool) -> bool
+    requires { ⌜ (15 ≤ number) × (number ≤ 19) ⌝ }
+    ensures { λ r. ⌜ Lets judged (kindOf number) width first second r ⌝ }
+{
+    if judged {
+        return true;
+    }
+    if second == 0 {
+        return fits_first(number, width, first);
+    }
+    false
 }
 
 // ---- an item's own bytes, whose entry some value has
@@ -335,16 +410,24 @@ fn put_signed(number: u8, first: u64, out: &mut [u8], used: usize) -> usize
     }
 }
 
-// An unsigned integer's or a float's.
+// An unsigned integer's, of a byte or written as a varint.
 fn put_unsigned(number: u8, first: u64, out: &mut [u8], used: usize) -> usize
-    requires { ⌜ (5 ≤ number) × (number ≤ 10) ⌝ }
+    requires { ⌜ (5 ≤ number) × (number ≤ 8) ⌝ }
     ensures { λ r. ⌜ Spells (kindOf number) first used (now (out .entry)) r (now (out .exit)) ⌝ }
 {
     match number {
         5 => put_byte((first % 256) as u8, out, used),
-        9 => put_sixth(4, false, first, out, used),
-        10 => put_sixth(5, false, first, out, used),
         _ => put_varint(first, out, used),
+    }
+}
+
+fn put_int(number: u8, first: u64, out: &mut [u8], used: usize) -> usize
+    requires { ⌜ number ≤ 8 ⌝ }
+    ensures { λ r. ⌜ Spells (kindOf number) first used (now (out .entry)) r (now (out .exit)) ⌝ }
+{
+    match number {
+        0..=4 => put_signed(number, first, out, used),
+        _ => put_unsigned(number, first, out, used),
     }
 }
 
@@ -360,31 +443,74 @@ fn put_inner(number: u8, first: u64, out: &mut [u8], used: usize) -> usize
     }
 }
 
-fn put_own(number: u8, first: u64, second: u64, pool: &[u8], out: &mut [u8], used: usize) -> usize
-    requires { ⌜ number < 32 ⌝ }
+// Another leaf's.
+fn put_rest(number: u8, first: u64, second: u64, pool: &[u8], out: &mut [u8], used: usize) -> usize
+    requires { ⌜ IsLeaf number ⌝ }
+    requires { ⌜ 9 ≤ number ⌝ }
     requires { ⌜ Fits (kindOf number) (now pool) first second ⌝ }
     ensures { λ r. ⌜ SpellsEntry (kindOf number) (now (pool .entry)) first second used (now (out .entry)) r (now (out .exit)) ⌝ }
 {
     match number {
-        0..=4 => put_signed(number, first, out, used),
-        5..=10 => put_unsigned(number, first, out, used),
+        9 => put_sixth(4, false, first, out, used),
+        10 => put_sixth(5, false, first, out, used),
         11 => put_char(first, out, used),
         12 | 13 => put_part(first, second, pool, out, used),
         14 => used,
-        15..=19 => put_inner(number, first, out, used),
         20..=25 => put_sixth(number - 20, false, first, out, used),
         26..=31 => put_sixth(number - 26, true, first, out, used),
         _ => used,
     }
 }
 
-// ---- the cycle: an item, the rounds of the stretch that follows it, one round
+fn put_leaf(number: u8, first: u64, second: u64, pool: &[u8], out: &mut [u8], used: usize) -> usize
+    requires { ⌜ IsLeaf number ⌝ }
+    requires { ⌜ Fits (kindOf number) (now pool) first second ⌝ }
+    ensures { λ r. ⌜ SpellsEntry (kindOf number) (now (pool .entry)) first second used (now (out .entry)) r (now (out .exit)) ⌝ }
+{
+    if 9 <= number {
+        return put_rest(number, first, second, pool, out, used);
+    }
+    put_int(number, first, out, used)
+}
 
-// An entry's own bytes, and what follows.
+// ---- an entry
+
+// A leaf's, which nothing follows.
+fn leaf_item(
+    number: u8,
+    words: &[u64],
+    at: usize,
+    pool: &[u8],
+    out: &mut [u8],
+    used: usize,
+    judged: bool,
+) -> Put
+    requires { ⌜ IsLeaf number ⌝ }
+    requires { ⌜ at < length (now words) / 2 ⌝ }
+    requires { ⌜ Sure judged (writeLeaf (kindOf number) (now pool) (entries (now words) at)) ⌝ }
+    ensures { λ r. ⌜ Gives (writeLeaf (kindOf number) (now (pool .entry)) (entries (now (words .entry)) at)) (now (words .entry)) used (now (out .entry)) r (now (out .exit)) ⌝ }
+{
+    let i = 2 * at;
+    let first = words[i];
+    let second = words[i + 1];
+    let ok = fits_leaf(number, first, second, pool, judged);
+    if ok {
+        let more = put_leaf(number, first, second, pool, out, used);
+        let next = at + 1;
+        return Put::Done {
+            at: next,
+            used: more,
+        };
+    }
+    Put::Misfit { at }
+}
+
+// That of an item with children: its own bytes, and what follows.
 fn enter(
     table: &[u8],
     l: Layout,
     node: usize,
+    number: u8,
     words: &[u64],
     at: usize,
     pool: &[u8],
@@ -394,26 +520,80 @@ fn enter(
 ) -> Entered
     requires { ⌜ GoodTable (now table) l ⌝ }
     requires { ⌜ node < l .nodes ⌝ }
+    requires { ⌜ number ≡ nodeAt (now table) (recordOf l node) .number ⌝ }
+    requires { ⌜ (15 ≤ number) × (number ≤ 19) ⌝ }
+    requires { ⌜ at < length (now words) / 2 ⌝ }
     requires { ⌜ Sure judged (writeNode (now table) l (now pool) node (entries (now words) at)) ⌝ }
     ensures { λ r. ⌜ Enters (writeNode (now (table .entry)) l (now (pool .entry)) node (entries (now (words .entry)) at)) (now (table .entry)) l (now (pool .entry)) node (now (words .entry)) at used (now (out .entry)) r (now (out .exit)) ⌝ }
 {
-    if words.len() / 2 <= at {
-        return Entered::Misfit;
-    }
     let i = 2 * at;
     let first = words[i];
     let second = words[i + 1];
-    let number = table::kind_at(table, l, node);
     let width = table::child_count(table, l, node);
-    let ok = fits(number, width, first, second, pool, judged);
+    let ok = fits_inner(number, width, first, second, judged);
     if ok {
-        let more = put_own(number, first, second, pool, out, used);
+        let more = put_inner(number, first, out, used);
         let from = table::first_child(table, l, node);
         let to = table::follow(number, first, from, width);
         return Entered::On { to, used: more };
     }
     Entered::Misfit
 }
+
+// ---- rounds
+
+// A stretch as its rounds go: the numbers of a struct's fields where it is that struct alone, whose entry then heads
+// every round, so that no call is made for it.
+fn flat(table: &[u8], l: Layout, node: usize, from: usize, width: usize) -> Way
+    requires { ⌜ GoodTable (now table) l ⌝ }
+    requires { ⌜ node ≤ l .nodes ⌝ }
+    requires { ⌜ Falls (now table) from width node ⌝ }
+    ensures { λ r. ⌜ Flat (now (table .entry)) l node from width r ⌝ }
+{
+    if width == 1 {
+        let c = table::u16_at(table, from);
+        let number = table::kind_at(table, l, c);
+        if number == 18 {
+            let first = table::first_child(table, l, c);
+            let count = table::child_count(table, l, c);
+            return Way {
+                headed: true,
+                from: first,
+                width: count,
+            };
+        }
+    }
+    Way {
+        headed: false,
+        from,
+        width,
+    }
+}
+
+// A struct's entry has no bytes.
+fn begin(headed: bool, words: &[u64], at: usize) -> Begun
+    ensures { λ r. ⌜ Begins headed (now (words .entry)) at r ⌝ }
+{
+    if headed {
+        if words.len() / 2 <= at {
+            return Begun::Misfit;
+        }
+        let i = 2 * at;
+        let first = words[i];
+        let second = words[i + 1];
+        if first != 0 {
+            return Begun::Misfit;
+        }
+        if second != 0 {
+            return Begun::Misfit;
+        }
+        let next = at + 1;
+        return Begun::At { at: next };
+    }
+    Begun::At { at }
+}
+
+// ---- the cycle: an item, one with children, the rounds of the stretch that follows it, one round
 
 fn put_item(
     table: &[u8],
@@ -431,7 +611,52 @@ fn put_item(
     requires { ⌜ Sure judged (writeNode (now table) l (now pool) node (entries (now words) at)) ⌝ }
     ensures { λ r. ⌜ Gives (writeNode (now (table .entry)) l (now (pool .entry)) node (entries (now (words .entry)) at)) (now (words .entry)) used (now (out .entry)) r (now (out .exit)) ⌝ }
 {
-    let entered = enter(table, l, node, words, at, pool, out, used, judged);
+    if words.len() / 2 <= at {
+        return Put::Misfit { at };
+    }
+    let number = table::kind_at(table, l, node);
+    match number {
+        15..=19 => {
+            let got = inner_item(table, l, node, number, words, at, pool, out, used, judged);
+            // Made anew, so that a leaf's answer does not go through memory with this one.
+            let Put::Done {
+                at: next,
+                used: more,
+            } = got
+            else {
+                return got;
+            };
+            Put::Done {
+                at: next,
+                used: more,
+            }
+        }
+        _ => leaf_item(number, words, at, pool, out, used, judged),
+    }
+}
+
+// The call of the cycle stands here and not in `put_item`, where each leaf would pay for copies of what it is lent.
+fn inner_item(
+    table: &[u8],
+    l: Layout,
+    node: usize,
+    number: u8,
+    words: &[u64],
+    at: usize,
+    pool: &[u8],
+    out: &mut [u8],
+    used: usize,
+    judged: bool,
+) -> Put
+    requires { ⌜ GoodTable (now table) l ⌝ }
+    requires { ⌜ node < l .nodes ⌝ }
+    requires { ⌜ number ≡ nodeAt (now table) (recordOf l node) .number ⌝ }
+    requires { ⌜ (15 ≤ number) × (number ≤ 19) ⌝ }
+    requires { ⌜ at < length (now words) / 2 ⌝ }
+    requires { ⌜ Sure judged (writeNode (now table) l (now pool) node (entries (now words) at)) ⌝ }
+    ensures { λ r. ⌜ Gives (writeNode (now (table .entry)) l (now (pool .entry)) node (entries (now (words .entry)) at)) (now (words .entry)) used (now (out .entry)) r (now (out .exit)) ⌝ }
+{
+    let entered = enter(table, l, node, number, words, at, pool, out, used, judged);
     match entered {
         Entered::Misfit => Put::Misfit { at },
         Entered::On { to, used: more } => {
@@ -442,13 +667,15 @@ fn put_item(
                     used: more,
                 };
             }
+            let way = flat(table, l, node, to.from, to.width);
             put_rounds(
                 table,
                 l,
                 node,
-                to.from,
-                to.width,
                 to.rounds,
+                way.headed,
+                way.from,
+                way.width,
                 words,
                 next,
                 pool,
@@ -464,9 +691,10 @@ fn put_rounds(
     table: &[u8],
     l: Layout,
     node: usize,
+    rounds: u64,
+    headed: bool,
     from: usize,
     width: usize,
-    rounds: u64,
     words: &[u64],
     at: usize,
     pool: &[u8],
@@ -477,14 +705,30 @@ fn put_rounds(
     requires { ⌜ GoodTable (now table) l ⌝ }
     requires { ⌜ node ≤ l .nodes ⌝ }
     requires { ⌜ Falls (now table) from width node ⌝ }
-    requires { ⌜ Sure judged (writeRounds (now table) l (now pool) rounds from width (entries (now words) at)) ⌝ }
-    ensures { λ r. ⌜ Gives (writeRounds (now (table .entry)) l (now (pool .entry)) rounds from width (entries (now (words .entry)) at)) (now (words .entry)) used (now (out .entry)) r (now (out .exit)) ⌝ }
+    requires { ⌜ Sure judged (writeRounds (now table) l (now pool) rounds headed from width (entries (now words) at)) ⌝ }
+    ensures { λ r. ⌜ Gives (writeRounds (now (table .entry)) l (now (pool .entry)) rounds headed from width (entries (now (words .entry)) at)) (now (words .entry)) used (now (out .entry)) r (now (out .exit)) ⌝ }
 {
     let mut i = at;
     let mut n = used;
     let mut left = rounds;
     while 0 < left {
-        let got = put_stretch(table, l, node, from, width, words, i, pool, out, n, judged);
+        let begun = begin(headed, words, i);
+        let Begun::At { at: start } = begun else {
+            return Put::Misfit { at: i };
+        };
+        let got = put_stretch(
+            table,
+            l,
+            node,
+            from,
+            width,
+            words,
+            start,
+            pool,
+            out,
+            n,
+            judged,
+        );
         let Put::Done {
             at: next,
             used: more,
@@ -556,13 +800,15 @@ fn put_list(
     ensures { λ r. ⌜ Gives (writeShape (shapeOf (now (table .entry)) l) (now (pool .entry)) (entries (now (words .entry)) 0)) (now (words .entry)) 0 (now (out .entry)) r (now (out .exit)) ⌝ }
 {
     let from = table::root_at(table);
+    let way = flat(table, l, l.nodes, from, 1);
     put_rounds(
         table,
         l,
         l.nodes,
-        from,
         1,
-        1,
+        way.headed,
+        way.from,
+        way.width,
         words,
         0,
         pool,
@@ -572,22 +818,14 @@ fn put_list(
     )
 }
 
-// Whether the list fits, and how long its form is. The bytes are dropped, but for one that is nobody's.
-fn judge(table: &[u8], l: Layout, words: &[u64], pool: &[u8]) -> Put
-    requires { ⌜ checkOf (now table) ≡ Good l ⌝ }
-    ensures { λ r. ⌜ Judged (writeShape (shapeOf (now (table .entry)) l) (now (pool .entry)) (entries (now (words .entry)) 0)) (now (words .entry)) r ⌝ }
-{
-    let mut none: [u8; 1] = [0];
-    put_list(table, l, words, pool, &mut none, false)
-}
-
-// A list of whole entries.
+// A list of whole entries. The first pass keeps the form where it is short; a longer one is written by a second pass.
 fn write_entries(table: &[u8], l: Layout, words: &[u64], pool: &[u8], out: &mut [u8]) -> WriteAnswer
     requires { ⌜ checkOf (now table) ≡ Good l ⌝ }
     requires { ⌜ length (now words) % 2 ≡ 0 ⌝ }
     ensures { λ r. ⌜ Writes (formed (length (now (out .entry))) (writeShape (shapeOf (now (table .entry)) l) (now (pool .entry)) (entries (now (words .entry)) 0))) (now (out .entry)) r (now (out .exit)) ⌝ }
 {
-    let got = judge(table, l, words, pool);
+    let mut small: [u8; SHORT] = [0; SHORT];
+    let got = put_list(table, l, words, pool, &mut small, false);
     match got {
         Put::Misfit { at } => WriteAnswer::Refused {
             why: Refusal::Values,
@@ -605,6 +843,10 @@ fn write_entries(table: &[u8], l: Layout, words: &[u64], pool: &[u8], out: &mut 
                     why: Refusal::Full,
                     place: 0,
                 };
+            }
+            if used <= SHORT {
+                put_bytes(&small[..used], out, 0);
+                return WriteAnswer::Done { place: used };
             }
             put_list(table, l, words, pool, out, true);
             WriteAnswer::Done { place: used }

@@ -3,12 +3,9 @@
 use mathlib.Core.Path.{sym, _∙_}
 use native.Mathlib.Omega.{arith}
 use borrow.Author.Needs.{needs}
-use Rattle.writer.proofs.Nodes.{entry-end, entry-number, entry-misfit, entry-known, entry-fits, entry-follows, entry-inside, entry-goes}
+use Rattle.writer.proofs.Nodes.{start-lacks, start-known, node-starts, node-follows, node-inside, node-goes}
 use Rattle.writer.proofs.enter.Statement.{statement}
 use Rattle.writer.proofs.enter.Tie as tie
-
-returns : tie.Need-returns
-returns c = record { holds = let s = c .before .before .before .before .before in entry-end (s .pre .0) (s .pre .1 .0) (s .args .pool .now) (s .args .words .now) (s .args .at) (omega arith) }
 
 mul-i : tie.Need-mul-i
 mul-i c = search needs
@@ -28,50 +25,53 @@ mul-second c = search needs
 shared-slice-read-second : tie.Need-shared-slice-read-second
 shared-slice-read-second c = search needs
 
-kind-at-requires : tie.Need-kind-at-requires
-kind-at-requires c κs = search needs
-
 child-count-requires : tie.Need-child-count-requires
 child-count-requires c κs = search needs
 
-fits-requires : tie.Need-fits-requires
-fits-requires c κs = (let s = c .before .before .before .before .before .before .before .before .before in entry-number (s .pre .0) (s .pre .1 .0) (s .args .pool .now) (s .args .words .now) (s .args .at) (c .before .kind-at .ensures) (c .child-count .ensures), let s = c .before .before .before .before .before .before .before .before .before in entry-known (s .pre .0) (s .pre .1 .0) (s .args .pool .now) (s .args .words .now) (s .args .at) (c .before .kind-at .ensures) (c .child-count .ensures) (omega arith) (s .pre .1 .1))
+fits-inner-requires : tie.Need-fits-inner-requires
+fits-inner-requires c κs = search needs
 
-put-own-requires : tie.Need-put-own-requires
-put-own-requires c κs = (let s = c .before .before .before .before .before .before .before .before .before .before .before .before in entry-number (s .pre .0) (s .pre .1 .0) (s .args .pool .now) (s .args .words .now) (s .args .at) (c .before .before .before .before .kind-at .ensures) (c .before .before .before .child-count .ensures), let s = c .before .before .before .before .before .before .before .before .before .before .before .before in entry-fits (s .pre .0) (s .pre .1 .0) (s .args .pool .now) (s .args .words .now) (s .args .at) (c .before .before .before .before .kind-at .ensures) (c .before .before .before .child-count .ensures) (omega arith) (sym (c .before .before .fits2 .ensures) ∙ c .before .if2 .taken))
+put-inner-requires : tie.Need-put-inner-requires
+put-inner-requires c κs = search needs
 
 first-child-requires : tie.Need-first-child-requires
 first-child-requires c κs = search needs
 
 follow-requires : tie.Need-follow-requires
-follow-requires c κs = (let s = c .before .before .before .before .before .before .before .before .before .before .before .before .before .before .before .before in entry-follows (s .pre .0) (s .pre .1 .0) (s .args .pool .now) (s .args .words .now) (s .args .at) (c .before .before .before .before .before .before .before .before .kind-at .ensures) (c .before .before .before .before .before .before .before .child-count .ensures) (omega arith) (sym (c .before .before .before .before .before .before .fits2 .ensures) ∙ c .before .before .before .before .before .if2 .taken), let s = c .before .before .before .before .before .before .before .before .before .before .before .before .before .before .before .before in entry-inside (s .pre .0) (s .pre .1 .0) (s .args .pool .now) (s .args .words .now) (s .args .at) (c .before .before .before .before .before .before .before .before .kind-at .ensures) (c .before .before .before .before .before .before .before .child-count .ensures) (omega arith) (sym (c .before .before .before .before .before .before .fits2 .ensures) ∙ c .before .before .before .before .before .if2 .taken) (c .first-child .ensures) (omega arith))
+follow-requires c κs =
+    let s = c .before .before .before .before .before .before .before .before .before .before .before .before .before .before in
+    let has = sym (c .before .before .before .before .before .before .fits-inner .ensures .at (s .args .pool .now) (start-known (node-starts (s .pre .0) (s .pre .1 .0) (s .args .pool .now) (s .args .words .now) (s .args .at) (s .pre .1 .1 .0) (c .before .before .before .before .before .before .before .child-count .ensures) (s .pre .1 .1 .1 .1 .0)) (s .pre .1 .1 .1 .1 .1))) ∙ c .before .before .before .before .before .if1 .taken in
+    (node-follows (s .pre .0) (s .pre .1 .0) (s .args .pool .now) (s .args .words .now) (s .args .at) (s .pre .1 .1 .0) (c .before .before .before .before .before .before .before .child-count .ensures) (s .pre .1 .1 .1 .1 .0) has, node-inside (s .pre .0) (s .pre .1 .0) (s .args .pool .now) (s .args .words .now) (s .args .at) (s .pre .1 .1 .0) (c .before .before .before .before .before .before .before .child-count .ensures) (s .pre .1 .1 .1 .1 .0) has (c .first-child .ensures) (omega arith))
 
 same-length : tie.Need-same-length
 same-length c = search needs
 
-returns-2 : tie.Need-returns-2
-returns-2 c = record { holds = let s = c .before .before .before .before .before .before .before .before .before .before .before .before .before .before .before .before .before in entry-goes (s .pre .0) (s .pre .1 .0) (s .args .pool .now) (s .args .words .now) (s .args .at) (c .before .before .before .before .before .before .before .before .before .kind-at .ensures) (c .before .before .before .before .before .before .before .before .child-count .ensures) (omega (arith, c .before .before .before .before .before .before .before .before .before .before .before .before .if1 .left)) (sym (c .before .before .before .before .before .before .before .fits2 .ensures) ∙ c .before .before .before .before .before .before .if2 .taken) (c .before .first-child .ensures) (c .before .before .before .before .put-own .ensures) (c .follow .ensures) }
+returns : tie.Need-returns
+returns c =
+    let s = c .before .before .before .before .before .before .before .before .before .before .before .before .before .before .before in
+    let has = sym (c .before .before .before .before .before .before .before .fits-inner .ensures .at (s .args .pool .now) (start-known (node-starts (s .pre .0) (s .pre .1 .0) (s .args .pool .now) (s .args .words .now) (s .args .at) (s .pre .1 .1 .0) (c .before .before .before .before .before .before .before .before .child-count .ensures) (s .pre .1 .1 .1 .1 .0)) (s .pre .1 .1 .1 .1 .1))) ∙ c .before .before .before .before .before .before .if1 .taken in
+    record { holds = node-goes (s .pre .0) (s .pre .1 .0) (s .args .pool .now) (s .args .words .now) (s .args .at) (s .pre .1 .1 .0) (c .before .before .before .before .before .before .before .before .child-count .ensures) (s .pre .1 .1 .1 .1 .0) has (c .before .first-child .ensures) (c .before .before .before .before .put-inner .ensures .with _ _) (c .follow .ensures) }
 
-returns-3 : tie.Need-returns-3
-returns-3 c = record { holds = let s = c .before .before .before .before .before .before .before .before .before .before .before in entry-misfit (s .pre .0) (s .pre .1 .0) (s .args .pool .now) (s .args .words .now) (s .args .at) (c .before .before .before .kind-at .ensures) (c .before .before .child-count .ensures) (omega arith) (sym (c .before .fits2 .ensures) ∙ c .if2 .left) }
+returns-2 : tie.Need-returns-2
+returns-2 c =
+    let s = c .before .before .before .before .before .before .before .before .before in
+    record { holds = start-lacks (node-starts (s .pre .0) (s .pre .1 .0) (s .args .pool .now) (s .args .words .now) (s .args .at) (s .pre .1 .1 .0) (c .before .before .child-count .ensures) (s .pre .1 .1 .1 .1 .0)) (sym (c .before .fits-inner .ensures .at (s .args .pool .now) (start-known (node-starts (s .pre .0) (s .pre .1 .0) (s .args .pool .now) (s .args .words .now) (s .args .at) (s .pre .1 .1 .0) (c .before .before .child-count .ensures) (s .pre .1 .1 .1 .1 .0)) (s .pre .1 .1 .1 .1 .1))) ∙ c .if1 .left) }
 
 pub enter-spec : {M : Type 1} → statement M
 enter-spec =
     tie.close
     (tie.spec
-    returns
     mul-i
     mul-first
     shared-slice-read-first
     add-second
     mul-second
     shared-slice-read-second
-    kind-at-requires
     child-count-requires
-    fits-requires
-    put-own-requires
+    fits-inner-requires
+    put-inner-requires
     first-child-requires
     follow-requires
     same-length
-    returns-2
-    returns-3)
+    returns
+    returns-2)

@@ -1,30 +1,23 @@
-use mathlib.Core.Path.{refl, sym}
-use Prim.Native.Nat.{_^_}
+-- `writer::fits_inner` meets its contract: judged, by its first word, or none where the second is not 0.
+-- Assumes nothing.
+use mathlib.Core.Path.{_≡_, sym}
 use native.Mathlib.Omega.{arith}
-use borrow.Author.Tests.{lt-ltb}
 use borrow.Author.Needs.{needs}
-use Rattle.wire.specs.Numbers.{isWord}
-use Rattle.writer.proofs.Judging.{judges-option, judges-struct, judges-enum, judges-count}
+use Rattle.writer.proofs.Judging.{no-second, not-pooled}
 use Rattle.writer.proofs.fits_inner.Statement.{statement}
 use Rattle.writer.proofs.fits_inner.Tie as tie
 
--- `writer::fits_inner` meets its contract, by the kind. Every word is below 2^64.
--- Assumes nothing.
-is-variant-requires : tie.Need-is-variant-requires
-is-variant-requires c κs = search needs
-
 returns : tie.Need-returns
-returns c = judges-option _ (omega arith) (omega arith) refl
+returns c = record { at = λ pool known. sym (known .is (c .if1 .taken)) }
+
+fits-first-requires : tie.Need-fits-first-requires
+fits-first-requires c κs = search needs
 
 returns-2 : tie.Need-returns-2
-returns-2 c = judges-struct _ (omega arith) (omega arith) refl
+returns-2 c = let e : c .before .before .before .args .second ≡ 0 = omega arith in record { at = λ pool known. rw e (c .fits-first .ensures .at pool) }
 
 returns-3 : tie.Need-returns-3
-returns-3 c = judges-enum _ (omega arith) (omega arith) (c .is-variant .ensures)
-
-returns-4 : tie.Need-returns-4
-unfolding isWord
-returns-4 c = let a = c .before .args in judges-count (a .number) (omega arith) (omega arith) (sym (lt-ltb (a .first) (2 ^ 64) (omega arith)))
+returns-3 c = record { at = λ pool known. no-second _ _ _ _ _ (not-pooled _ (omega arith) (λ l h. omega arith)) (λ e. omega arith) }
 
 pub fits-inner-spec : {M : Type 1} → statement M
-fits-inner-spec = tie.close (tie.spec is-variant-requires returns returns-2 returns-3 returns-4)
+fits-inner-spec = tie.close (tie.spec returns fits-first-requires returns-2 returns-3)

@@ -2,8 +2,7 @@
 -- Assumes nothing.
 use native.Mathlib.Omega.{arith}
 use borrow.Author.Needs.{needs}
-use Rattle.fixint.specs.Sizes.{orderOf}
-use Rattle.writer.proofs.Spelling.{spells-u8, spells-f32, spells-f64, spells-unsigned}
+use Rattle.writer.proofs.Spelling.{spells-u8, spells-unsigned}
 use Rattle.writer.proofs.put_unsigned.Statement.{statement}
 use Rattle.writer.proofs.put_unsigned.Tie as tie
 
@@ -12,12 +11,6 @@ cast-put-byte c = search needs
 
 put-byte-requires : tie.Need-put-byte-requires
 put-byte-requires c κs = search needs
-
-put-sixth-requires : tie.Need-put-sixth-requires
-put-sixth-requires c κs = search needs
-
-put-sixth-requires-2 : tie.Need-put-sixth-requires-2
-put-sixth-requires-2 c κs = search needs
 
 put-varint-requires : tie.Need-put-varint-requires
 put-varint-requires c κs = search needs
@@ -32,21 +25,7 @@ same-length-2 : tie.Need-same-length-2
 same-length-2 c = search needs
 
 returns-2 : tie.Need-returns-2
-unfolding orderOf
-returns-2 c = spells-f32 _ (omega arith) (omega arith) (c .before .before .put-sixth .ensures)
-
-same-length-3 : tie.Need-same-length-3
-same-length-3 c = search needs
-
-returns-3 : tie.Need-returns-3
-unfolding orderOf
-returns-3 c = spells-f64 _ (omega arith) (omega arith) (c .before .before .put-sixth2 .ensures)
-
-same-length-4 : tie.Need-same-length-4
-same-length-4 c = search needs
-
-returns-4 : tie.Need-returns-4
-returns-4 c = spells-unsigned _ (omega arith) (omega arith) (c .before .before .put-varint .ensures)
+returns-2 c = spells-unsigned _ (omega arith) (omega arith) (c .before .before .put-varint .ensures)
 
 pub put-unsigned-spec : {M : Type 1} → statement M
 put-unsigned-spec =
@@ -54,14 +33,8 @@ put-unsigned-spec =
     (tie.spec
     cast-put-byte
     put-byte-requires
-    put-sixth-requires
-    put-sixth-requires-2
     put-varint-requires
     same-length
     returns
     same-length-2
-    returns-2
-    same-length-3
-    returns-3
-    same-length-4
-    returns-4)
+    returns-2)

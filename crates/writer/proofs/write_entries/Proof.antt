@@ -1,13 +1,19 @@
 -- `writer::write_entries` meets its contract, by how a list that was judged ends.
 -- Assumes nothing.
+use mathlib.Core.Path.{refl, sym}
 use native.Mathlib.Omega.{arith}
+use lib.Seq.{length-take-le}
 use borrow.Author.Needs.{needs}
-use Rattle.writer.proofs.Promised.{judged-misfit, judged-sure, judged-more, judged-full, judged-done}
+use Rattle.laws.proofs.Splits.{not-both}
+use Rattle.writer.proofs.Promised.{judged-misfit, judged-sure, judged-more, judged-full, judged-short, judged-done}
 use Rattle.writer.proofs.write_entries.Statement.{statement}
 use Rattle.writer.proofs.write_entries.Tie as tie
 
-judge-requires : tie.Need-judge-requires
-judge-requires c κs = search needs
+slice-aggregate-put-list : tie.Need-slice-aggregate-put-list
+slice-aggregate-put-list c = search needs
+
+put-list-requires : tie.Need-put-list-requires
+put-list-requires c κs = (c .before .before .before .before .before .pre .0, record { never = λ j i e. not-both j refl })
 
 enum-known-got : tie.Need-enum-known-got
 enum-known-got c = search needs
@@ -16,33 +22,54 @@ enum-known-got-2 : tie.Need-enum-known-got-2
 enum-known-got-2 c = search needs
 
 returns : tie.Need-returns
-returns c = judged-more _ (c .before .before .before .before .judge .ensures) (c .before .before .got2 .given .1) (omega arith)
+returns c = judged-more _ (c .before .before .before .before .before .put-list .ensures) (c .before .before .got2 .given .1) (omega arith)
 
 returns-2 : tie.Need-returns-2
-returns-2 c = judged-full _ (c .before .before .before .before .before .judge .ensures) (c .before .before .before .got2 .given .1) (omega arith) (omega arith) (omega arith)
+returns-2 c = judged-full _ (c .before .before .before .before .before .before .put-list .ensures) (c .before .before .before .got2 .given .1) (omega arith) (omega arith) (omega arith)
 
-put-list-requires : tie.Need-put-list-requires
-put-list-requires c κs = (c .before .before .before .before .before .before .before .before .before .before .before .pre .0, judged-sure (c .before .before .before .before .before .before .before .before .before .before .before .args .out .now) (c .before .before .before .before .before .before .judge .ensures) (c .before .before .before .before .got2 .given .1))
+array-share-prefix-small : tie.Need-array-share-prefix-small
+array-share-prefix-small c = search needs
 
-returns-3 : tie.Need-returns-3
-returns-3 c = judged-misfit _ (c .before .before .before .judge .ensures) (c .before .got .given .1)
+slice-aggregate-put-bytes : tie.Need-slice-aggregate-put-bytes
+slice-aggregate-put-bytes c = sym (length-take-le _ _ (omega arith))
+
+put-bytes-requires : tie.Need-put-bytes-requires
+put-bytes-requires c κs = search needs
 
 same-length : tie.Need-same-length
 same-length c = search needs
 
+returns-3 : tie.Need-returns-3
+returns-3 c = judged-short _ (c .before .before .before .before .before .before .before .before .before .before .before .before .put-list .ensures) (c .before .before .before .before .before .before .before .before .before .got2 .given .1) (omega arith) (omega arith) (omega arith) (omega arith) (c .before .before .put-bytes .ensures)
+
+put-list-requires-2 : tie.Need-put-list-requires-2
+put-list-requires-2 c κs = let s = c .before .before .before .before .before .before .before .before .before .before .before .before .before .before in (s .pre .0, judged-sure (s .args .out .now) (c .before .before .before .before .before .before .before .before .put-list .ensures) (c .before .before .before .before .before .got2 .given .1))
+
 returns-4 : tie.Need-returns-4
-returns-4 c = judged-done _ (c .before .before .before .before .before .before .before .before .before .judge .ensures) (c .before .before .before .before .before .before .before .got2 .given .1) (omega arith) (omega arith) (omega arith) (c .before .before .put-list .ensures)
+returns-4 c = judged-misfit _ (c .before .before .before .before .put-list .ensures) (c .before .got .given .1)
+
+same-length-2 : tie.Need-same-length-2
+same-length-2 c = search needs
+
+returns-5 : tie.Need-returns-5
+returns-5 c = judged-done _ (c .before .before .before .before .before .before .before .before .before .before .before .put-list .ensures) (c .before .before .before .before .before .before .before .before .got2 .given .1) (omega arith) (omega arith) (omega arith) (c .before .before .put-list2 .ensures)
 
 pub write-entries-spec : {M : Type 1} → statement M
 write-entries-spec =
     tie.close
     (tie.spec
-    judge-requires
+    slice-aggregate-put-list
+    put-list-requires
     enum-known-got
     enum-known-got-2
     returns
     returns-2
-    put-list-requires
-    returns-3
+    array-share-prefix-small
+    slice-aggregate-put-bytes
+    put-bytes-requires
     same-length
-    returns-4)
+    returns-3
+    put-list-requires-2
+    returns-4
+    same-length-2
+    returns-5)

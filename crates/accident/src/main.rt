@@ -1,25 +1,21 @@
 // The accident that the append question prevents: a new table puts a field in front, and the old one reads other numbers
 // without an error. The same field at the end does no harm.
-use libc::STDOUT_FILENO;
 use wire::AskAnswer;
 use wire::ReadAnswer;
+use words::say;
+use words::say_number;
 
-fn say(text: &[u8]) {
-    io::write_all(STDOUT_FILENO, text);
-}
-
-fn say_number(text: &[u8], n: u64) {
+fn say_counted(text: &[u8], n: u64) {
     say(text);
-    io::print_decimal(STDOUT_FILENO, n);
+    say_number(n);
 }
 
-// A signed number, which an entry has as 2^64 + x where x is below zero.
-fn say_signed(text: &[u8], n: u64) {
-    if n < 0x8000_0000_0000_0000 {
-        return say_number(text, n);
+fn say_signed(text: &[u8], word: u64) {
+    say(text);
+    if spelling::is_negative(word) {
+        say(b"-");
     }
-    say(text);
-    say_number(b"-", 0xffff_ffff_ffff_ffff - n + 1);
+    say_number(spelling::size(word));
 }
 
 fn say_question(old: &[u8], new: &[u8]) {
@@ -44,8 +40,8 @@ fn say_reading(old: &[u8], message: &[u8]) {
     let mut store = [0u64; 8];
     match reader::read(old, message, &mut store) {
         ReadAnswer::Done { place: _, count: _ } => {
-            say_number(b"The old table would read store ", store[2]);
-            say_number(b", product ", store[4]);
+            say_counted(b"The old table would read store ", store[2]);
+            say_counted(b", product ", store[4]);
             say_signed(b", count ", store[6]);
             say(b", and no error.\n");
         }

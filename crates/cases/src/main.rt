@@ -1,44 +1,14 @@
 // Reads document 01's reading cases, and three tables that must not take long, and writes what comes back.
-use libc::STDOUT_FILENO;
 use wire::ReadAnswer;
-use wire::Refusal;
+use words::say;
+use words::say_bytes;
+use words::say_entry;
+use words::say_number;
+use words::say_why;
 ghost use Prim.Native.Nat.{_+_, _*_, _<_, _≤_};
 ghost use lib.ListN.{length};
 
-// ---- words
-
-fn say(s: &[u8]) {
-    io::write_all(STDOUT_FILENO, s);
-}
-
-fn say_number(x: u64) {
-    io::print_decimal(STDOUT_FILENO, x);
-}
-
-fn say_why(why: Refusal) {
-    match why {
-        Refusal::Trailer => say(b"1 (trailer not good)"),
-        Refusal::Record => say(b"2 (record not good)"),
-        Refusal::End => say(b"3 (message ends inside an item)"),
-        Refusal::Varint => say(b"4 (bad varint)"),
-        Refusal::Bool => say(b"5 (bad bool)"),
-        Refusal::Char => say(b"6 (bad char)"),
-        Refusal::Utf8 => say(b"7 (bad UTF-8)"),
-        Refusal::Option => say(b"8 (bad option)"),
-        Refusal::Variant => say(b"9 (variant number not in table)"),
-        Refusal::Room => say(b"10 (no room for this item's entry)"),
-        Refusal::Values => say(b"11 (value list doesn't fit)"),
-        Refusal::Full => say(b"12 (output full)"),
-    }
-}
-
-fn say_entry(first: u64, second: u64) {
-    say(b" (");
-    say_number(first);
-    say(b", ");
-    say_number(second);
-    say(b")");
-}
+// ---- what came back
 
 // How many entries were made, and the first four.
 fn say_entries(store: &[u64], count: usize) {
@@ -59,21 +29,9 @@ fn say_entries(store: &[u64], count: usize) {
     }
 }
 
-fn say_byte(b: u8) {
-    say(b" ");
-    io::print_hex(STDOUT_FILENO, b as u64, 2);
-}
-
 fn say_rest(rest: &[u8]) {
-    say(b"; rest");
-    if rest.len() == 0 {
-        say(b" empty");
-    }
-    let mut i = 0;
-    while i < rest.len() {
-        say_byte(rest[i]);
-        i = i + 1;
-    }
+    say(b"; rest:");
+    say_bytes(rest);
     say(b"\n");
 }
 
@@ -92,7 +50,7 @@ fn read_into(name: &[u8], table: &[u8], message: &[u8], store: &mut [u64]) {
         ReadAnswer::Refused { why, place, count } => {
             say(b": refused ");
             say_why(why);
-            say(b" at ");
+            say(b", at ");
             say_number(place as u64);
             say_entries(store, count);
         }

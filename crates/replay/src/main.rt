@@ -6,6 +6,8 @@ mod memory;
 
 use compare::Kind;
 use libc::STDOUT_FILENO;
+use words::say;
+use words::say_number;
 ghost use Prim.Native.Nat.{_+_, _^_, _<_, _≤_};
 
 // A list has fewer bytes than this.
@@ -15,14 +17,6 @@ const ROOM: usize = 131072;
 struct Tally {
     records: u64,
     agree: u64,
-}
-
-fn say(text: &[u8]) {
-    io::write_all(STDOUT_FILENO, text);
-}
-
-fn say_number(n: u64) {
-    io::print_decimal(STDOUT_FILENO, n);
 }
 
 fn say_record(text: &[u8], which: u64) {

@@ -1,8 +1,12 @@
 // Writes a value of every kind, reads it back with bytes behind it, and writes what was read again; and lists that are refused.
-use libc::STDOUT_FILENO;
 use wire::ReadAnswer;
 use wire::Refusal;
 use wire::WriteAnswer;
+use words::say;
+use words::say_bytes;
+use words::say_entry;
+use words::say_number;
+use words::say_why;
 
 // A node of each kind, at the kind's number, and a struct of them all.
 const TABLE: [u8; 280] = [
@@ -379,54 +383,22 @@ const WORDS: [u64; 86] = [
 
 // ---- words
 
-fn say(s: &[u8]) {
-    io::write_all(STDOUT_FILENO, s);
-}
-
-fn say_number(x: u64) {
-    io::print_decimal(STDOUT_FILENO, x);
-}
-
-// The numbers that a writing gives.
-fn number(why: Refusal) -> u64 {
-    match why {
-        Refusal::Trailer => 1,
-        Refusal::Record => 2,
-        Refusal::Values => 11,
-        Refusal::Full => 12,
-        _ => 0,
-    }
-}
-
 fn say_refused(why: Refusal, place: usize) {
     say(b"refused ");
-    say_number(number(why));
-    say(b" at ");
+    say_why(why);
+    say(b", at ");
     say_number(place as u64);
 }
 
-fn say_byte(b: u8) {
-    say(b" ");
-    io::print_hex(STDOUT_FILENO, b as u64, 2);
-}
-
-fn say_bytes(bytes: &[u8]) {
-    let mut i = 0;
-    while i < bytes.len() {
-        say_byte(bytes[i]);
-        i = i + 1;
-    }
+fn say_line(bytes: &[u8]) {
+    say_bytes(bytes);
     say(b"\n");
 }
 
 fn say_entries(words: &[u64]) {
     let mut i = 0;
     while i + 1 < words.len() {
-        say(b" (");
-        say_number(words[i]);
-        say(b", ");
-        say_number(words[i + 1]);
-        say(b")");
+        say_entry(words[i], words[i + 1]);
         i = i + 2;
     }
     say(b"\n");
@@ -469,7 +441,7 @@ fn read_back(table: &[u8], message: &[u8]) {
                 let words = &store[..2 * count];
                 say_entries(words);
                 say(b"rest:");
-                say_bytes(reader::rest(message, answer));
+                say_line(reader::rest(message, answer));
                 write_again(table, words, message);
             }
         }
@@ -487,7 +459,7 @@ fn there_and_back() {
             say(b"written ");
             say_number(place as u64);
             say(b" bytes, then as before:");
-            say_bytes(&message);
+            say_line(&message);
             read_back(&table, &message);
         }
     }
@@ -511,7 +483,7 @@ fn write_case(name: &[u8], table: &[u8], words: &[u64], pool: &[u8]) {
         }
     }
     say(b"; out");
-    say_bytes(&out);
+    say_line(&out);
 }
 
 fn bad_tables() {

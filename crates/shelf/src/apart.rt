@@ -2,13 +2,13 @@
 use crate::files;
 use crate::names::say_child;
 use crate::parts::child;
+use crate::tree::say_bad;
 use crate::tree::say_node;
-use crate::words::say;
-use crate::words::say_bad;
 use parting::Parting;
 use wire::Checked;
 use wire::Layout;
 use wire::Side;
+use words::say;
 ghost use Prim.Native.Nat.{_<_};
 ghost use Rattle.laws.specs.Tables.{GoodTable};
 

@@ -1,13 +1,13 @@
 // A recorded stream, fed to the accumulator chunk by chunk.
 use crate::files;
-use crate::words::front;
-use crate::words::say;
-use crate::words::say_bytes;
-use crate::words::say_count;
-use crate::words::say_number;
 use accumulator::Accumulator;
 use accumulator::Fed;
 use wire::FeedAnswer;
+use words::front;
+use words::say;
+use words::say_bytes;
+use words::say_count;
+use words::say_number;
 ghost use Prim.Native.Nat.{_+_, _^_, _≤_, _<_};
 ghost use lib.ListN.{length};
 ghost use Rattle.wire.specs.Frames.{room};

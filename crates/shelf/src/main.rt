@@ -7,7 +7,6 @@ mod names;
 mod parts;
 mod tree;
 mod value;
-mod words;
 mod writing;
 
 // A verb, and how many words the whole command has with it.

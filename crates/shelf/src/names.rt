@@ -1,7 +1,7 @@
 // The names of kinds, and of a child's position under its parent.
-use crate::words::say;
-use crate::words::say_number;
-use crate::words::say_part;
+use words::say;
+use words::say_number;
+use words::say_part;
 
 // A kind's name, by its number.
 pub fn say_kind(number: u8) {

@@ -3,18 +3,31 @@ use crate::files;
 use crate::names::say_child;
 use crate::names::say_kind;
 use crate::parts::child;
-use crate::words::indent;
-use crate::words::say;
-use crate::words::say_bad;
-use crate::words::say_count;
-use crate::words::say_number;
 use wire::Checked;
 use wire::Layout;
+use wire::Refusal;
+use words::indent;
+use words::say;
+use words::say_count;
+use words::say_number;
+use words::say_why;
 ghost use mathlib.Core.Path.{_≡_};
 ghost use Prim.Native.Nat.{_+_, _≤_, _<_};
 ghost use lib.ListN.{length};
 ghost use Rattle.wire.specs.Table.{nodeAt, recordOf};
 ghost use Rattle.laws.specs.Tables.{nodeCount, GoodTable};
+
+// A table that is not good: why, and where.
+pub fn say_bad(why: Refusal, place: usize) {
+    say(b"the table is not good: ");
+    say_why(why);
+    match why {
+        Refusal::Record => say(b", at node "),
+        _ => say(b", at place "),
+    }
+    say_number(place as u64);
+    say(b"\n");
+}
 
 // How many children a struct or an enum has; the other kinds' are always as many.
 fn say_width(number: u8, width: usize) {

@@ -1,10 +1,10 @@
 // A value in its kind's own form, with a space in front if it has one.
-use crate::words::front;
-use crate::words::say;
-use crate::words::say_bytes;
-use crate::words::say_count;
-use crate::words::say_number;
 use libc::STDOUT_FILENO;
+use words::front;
+use words::say;
+use words::say_bytes;
+use words::say_count;
+use words::say_number;
 
 fn say_signed(word: u64) {
     if spelling::is_negative(word) {

@@ -1,12 +1,12 @@
 // A value list, written as a message.
 use crate::files;
-use crate::words::front;
-use crate::words::say;
-use crate::words::say_count;
-use crate::words::say_number;
-use crate::words::say_why;
 use wire::Item;
 use wire::WriteAnswer;
+use words::front;
+use words::say;
+use words::say_count;
+use words::say_number;
+use words::say_why;
 ghost use Prim.Native.Nat.{_≤_};
 ghost use lib.ListN.{length};
 
@@ -47,7 +47,7 @@ fn write(table: &[u8], words: &[u64], pool: &[u8]) {
         WriteAnswer::Refused { why, place } => {
             say(b"refused: ");
             say_why(why);
-            say(b", at ");
+            say(b", at place ");
             say_number(place as u64);
             say(b"; nothing is written\n");
         }

@@ -2,23 +2,22 @@
 // number and name, how long the rest is, the state's idx, and a frame's message in hex.
 use accumulator::Accumulator;
 use accumulator::Fed;
-use libc::STDOUT_FILENO;
 use wire::FeedAnswer;
+use words::front;
+use words::say;
+use words::say_bytes;
+use words::say_number;
 ghost use Prim.Native.Nat.{_≤_, _<_};
 ghost use Rattle.wire.specs.Frames.{room};
 
-fn say(text: &[u8]) {
-    io::write_all(STDOUT_FILENO, text);
-}
-
-fn say_number(text: &[u8], n: usize) {
+fn say_counted(text: &[u8], n: usize) {
     say(text);
-    io::print_decimal(STDOUT_FILENO, n as u64);
+    say_number(n as u64);
 }
 
 fn say_answer(answer: FeedAnswer) {
     say(b"  ");
-    io::print_decimal(STDOUT_FILENO, accumulator::number(answer));
+    say_number(accumulator::number(answer));
     match answer {
         FeedAnswer::Consumed => say(b" consumed"),
         FeedAnswer::OverFull => say(b" over-full"),
@@ -28,33 +27,15 @@ fn say_answer(answer: FeedAnswer) {
     }
 }
 
-fn say_byte(byte: u8) {
-    say(b" ");
-    io::print_hex(STDOUT_FILENO, byte as u64, 2);
-}
-
-fn say_bytes(bytes: &[u8]) {
-    let mut i = 0;
-    while i < bytes.len() {
-        say_byte(bytes[i]);
-        i += 1;
-    }
-}
-
 fn say_fed(fed: Fed, rest: usize) {
     let answer = fed.answer;
     let state = fed.state;
     let message = fed.message;
-    let len = fed.len;
     say_answer(answer);
-    say_number(b", rest ", rest);
-    say_number(b", idx ", state.idx);
-    // A made-up answer may say more than there is.
-    if len <= accumulator::ROOM {
-        say(b", message [");
-        say_bytes(&message[..len]);
-        say(b" ]");
-    }
+    say_counted(b", rest ", rest);
+    say_counted(b", idx ", state.idx);
+    say(b", message");
+    say_bytes(front(&message, fed.len));
     say(b"\n");
 }
 
@@ -91,7 +72,7 @@ fn main() {
     let mut at = 0;
     while at < end {
         let to = cut(at, end);
-        say_number(b"chunk of ", to - at);
+        say_counted(b"chunk of ", to - at);
         say(b"\n");
         let next = feed_all(state, &input[at..to]);
         state = next;

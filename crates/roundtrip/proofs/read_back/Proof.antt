@@ -80,8 +80,8 @@ rest-requires : tie.Need-rest-requires
 rest-requires c κs = search needs
 
 -- src/main.rt:472:17
-say-bytes-requires : tie.Need-say-bytes-requires
-say-bytes-requires c κs = search needs
+say-line-requires : tie.Need-say-line-requires
+say-line-requires c κs = search needs
 
 -- src/main.rt:473:17
 write-again-requires : tie.Need-write-again-requires
@@ -121,7 +121,7 @@ read-back-spec =
     slice-aggregate-say-4
     say-requires-4
     rest-requires
-    say-bytes-requires
+    say-line-requires
     write-again-requires
     returns
     returns-2

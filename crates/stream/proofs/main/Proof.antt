@@ -31,14 +31,14 @@ loop-holds c = search needs
 cut-requires : tie.Need-cut-requires Inv-loop μ-loop
 cut-requires c κs = search needs
 
-slice-aggregate-say-number : tie.Need-slice-aggregate-say-number Inv-loop μ-loop
-slice-aggregate-say-number c = search needs
+slice-aggregate-say-counted : tie.Need-slice-aggregate-say-counted Inv-loop μ-loop
+slice-aggregate-say-counted c = search needs
 
-sub-say-number : tie.Need-sub-say-number Inv-loop μ-loop
-sub-say-number c = search needs
+sub-say-counted : tie.Need-sub-say-counted Inv-loop μ-loop
+sub-say-counted c = search needs
 
-say-number-requires : tie.Need-say-number-requires Inv-loop μ-loop
-say-number-requires c κs = search needs
+say-counted-requires : tie.Need-say-counted-requires Inv-loop μ-loop
+say-counted-requires c κs = search needs
 
 slice-aggregate-say : tie.Need-slice-aggregate-say Inv-loop μ-loop
 slice-aggregate-say c = search needs
@@ -79,9 +79,9 @@ main-spec =
     new-requires
     loop-holds
     cut-requires
-    slice-aggregate-say-number
-    sub-say-number
-    say-number-requires
+    slice-aggregate-say-counted
+    sub-say-counted
+    say-counted-requires
     slice-aggregate-say
     say-requires
     sub-feed-all

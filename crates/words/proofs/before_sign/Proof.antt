@@ -1,10 +1,10 @@
--- `shelf::words::before_sign` meets its contract.
+-- `words::before_sign` meets its contract.
 -- Assumes nothing.
 use Prim.Native.Nat.{_-_, _≤_}
 use lib.ListN.{length}
 use borrow.Author.Needs.{needs}
-use Rattle.shelf.proofs.words.before_sign.Statement.{statement}
-use Rattle.shelf.proofs.words.before_sign.Tie as tie
+use Rattle.words.proofs.before_sign.Statement.{statement}
+use Rattle.words.proofs.before_sign.Tie as tie
 
 abbrev Inv-loop : tie.InvT-loop
 Inv-loop list i₀ i = i ≤ length list

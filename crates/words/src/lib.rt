@@ -1,8 +1,10 @@
-// Words and numbers on standard output.
+// Words, numbers and bytes on standard output, for the programs.
 use libc::STDOUT_FILENO;
 use wire::Refusal;
+ghost use mathlib.Core.Path.{_≡_};
 ghost use Prim.Native.Nat.{_≤_};
-ghost use lib.ListN.{length};
+ghost use lib.ListN.{length, take};
+ghost use Rattle.wire.specs.Answers.{refusalNumber};
 
 pub fn say(text: &[u8]) {
     io::write_all(STDOUT_FILENO, text);
@@ -39,8 +41,19 @@ pub fn say_bytes(bytes: &[u8]) {
     }
 }
 
+// An entry's two words.
+pub fn say_entry(first: u64, second: u64) {
+    say(b" (");
+    say_number(first);
+    say(b", ");
+    say_number(second);
+    say(b")");
+}
+
 // The first n bytes, or all if there are fewer.
-pub fn front<'a>(bytes: &'a [u8], n: usize) -> &'a [u8] {
+pub fn front<'a>(bytes: &'a [u8], n: usize) -> &'a [u8]
+    ensures { λ r. ⌜ now r ≡ take n (now (bytes .entry)) ⌝ }
+{
     if n <= bytes.len() {
         return &bytes[..n];
     }
@@ -92,7 +105,9 @@ pub fn say_part(list: &[u8], k: usize) {
 }
 
 // Document 01's number of a refusal.
-fn number(why: Refusal) -> usize {
+pub fn number(why: Refusal) -> u64
+    ensures { λ r. ⌜ r ≡ refusalNumber why ⌝ }
+{
     match why {
         Refusal::Trailer => 1,
         Refusal::Record => 2,
@@ -112,20 +127,11 @@ fn number(why: Refusal) -> usize {
 // A refusal's number, and its words.
 pub fn say_why(why: Refusal) {
     let n = number(why);
-    say_number(n as u64);
+    say_number(n);
     say(b", ");
     let names =
         b";the trailer is not good;a record is not good;the message ends inside an item;bad varint;bad bool;bad char;\
         bad UTF-8;bad option;the table has no such variant;no room for this item's entry;the value list does not fit;\
         the output is full";
-    say_part(names, n);
-}
-
-// A table that is not good: why, and at which node if it is a record.
-pub fn say_bad(why: Refusal, node: usize) {
-    say(b"the table is not good: ");
-    say_why(why);
-    say(b", at ");
-    say_number(node as u64);
-    say(b"\n");
+    say_part(names, n as usize);
 }

@@ -1,11 +1,11 @@
--- `shelf::words::say_bytes` is safe and ends.
+-- `words::say_bytes` is safe and ends.
 -- Assumes nothing.
 use Prim.{Unit}
 use Prim.Native.Nat.{_-_}
 use lib.ListN.{length}
 use borrow.Author.Needs.{needs}
-use Rattle.shelf.proofs.words.say_bytes.Statement.{statement}
-use Rattle.shelf.proofs.words.say_bytes.Tie as tie
+use Rattle.words.proofs.say_bytes.Statement.{statement}
+use Rattle.words.proofs.say_bytes.Tie as tie
 
 abbrev Inv-loop : tie.InvT-loop
 Inv-loop bytes i₀ t4 i = Unit

@@ -1,9 +1,9 @@
--- `shelf::words::say_part` is safe and ends.
+-- `words::say_part` is safe and ends.
 -- Assumes nothing.
 use Prim.{Unit}
 use borrow.Author.Needs.{needs}
-use Rattle.shelf.proofs.words.say_part.Statement.{statement}
-use Rattle.shelf.proofs.words.say_part.Tie as tie
+use Rattle.words.proofs.say_part.Statement.{statement}
+use Rattle.words.proofs.say_part.Tie as tie
 
 abbrev Inv-loop : tie.InvT-loop
 Inv-loop list k rest₀ left₀ rest left = Unit

@@ -1,9 +1,9 @@
--- `shelf::words::indent` is safe and ends.
+-- `words::indent` is safe and ends.
 -- Assumes nothing.
 use Prim.{Unit}
 use borrow.Author.Needs.{needs}
-use Rattle.shelf.proofs.words.indent.Statement.{statement}
-use Rattle.shelf.proofs.words.indent.Tie as tie
+use Rattle.words.proofs.indent.Statement.{statement}
+use Rattle.words.proofs.indent.Tie as tie
 
 abbrev Inv-loop : tie.InvT-loop
 Inv-loop depth left₀ t3 left = Unit

@@ -14,15 +14,6 @@ pub fn large_room() -> [u8; LARGE]
     [0; LARGE]
 }
 
-// The words of 16,384 entries: the room for a store or a value list.
-pub const WORDS: usize = 32768;
-
-pub fn words_room() -> [u64; WORDS]
-    ensures { λ r. ⌜ 32768 ≡ length r ⌝ }
-{
-    [0; WORDS]
-}
-
 // Whether a file is there whole, and how many bytes it has.
 pub struct Loaded {
     pub whole: bool,

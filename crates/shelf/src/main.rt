@@ -1,12 +1,7 @@
 // What a planner runs: shelf table, read, append, frames and write, each over files. Without such words it says how to use it.
-mod apart;
 mod files;
 mod frames;
-mod listing;
-mod names;
-mod parts;
-mod tree;
-mod value;
+mod shown;
 mod writing;
 
 // A verb, and how many words the whole command has with it.
@@ -62,9 +57,9 @@ fn words_of(verb: Verb) -> usize {
 
 fn run(verb: Verb) {
     match verb {
-        Verb::Table => tree::run(),
-        Verb::Read => listing::run(),
-        Verb::Append => apart::run(),
+        Verb::Table => shown::table(),
+        Verb::Read => shown::message(),
+        Verb::Append => shown::question(),
         Verb::Frames => frames::run(),
         Verb::Write => writing::run(),
         Verb::Unknown => say_usage(),

@@ -69,7 +69,7 @@ fn write_words(table: &[u8], values: &[u8], pool: &[u8]) {
         say_count(values.len() as u64, b"byte");
         return say(b"\n");
     }
-    let mut words = files::words_room();
+    let mut words = listing::entries::words_room();
     put_words(values, &mut words);
     write_front(table, &words, values.len() / 8, pool);
 }

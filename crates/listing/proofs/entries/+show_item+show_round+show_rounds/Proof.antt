@@ -1,0 +1,284 @@
+-- `listing::entries::show_item`, `show_round` and `show_rounds` are safe and end: the node's number falls at each item, and no entry behind the last is looked at.
+-- Assumes nothing.
+use native.Mathlib.Omega.{arith}
+use borrow.Author.Needs.{needs}
+use Prim.Native.Nat.{ℕ, _+_, _-_, _≤_, _<_}
+use borrow.Fn.Kinds.{In}
+use borrow.Fn.PlainCycle.{Measures, is, falls, and}
+use Rattle.listing.proofs.entries.show_item.Reads as show-item
+use Rattle.listing.proofs.entries.show_item.Kinds as show-item-kinds
+use Rattle.listing.proofs.entries.+show_item+show_round+show_rounds.Lts-show_item as show-item-lts
+use Rattle.listing.proofs.entries.show_round.Reads as show-round
+use Rattle.listing.proofs.entries.show_round.Kinds as show-round-kinds
+use Rattle.listing.proofs.entries.+show_item+show_round+show_rounds.Lts-show_round as show-round-lts
+use Rattle.listing.proofs.entries.show_rounds.Reads as show-rounds
+use Rattle.listing.proofs.entries.show_rounds.Kinds as show-rounds-kinds
+use Rattle.listing.proofs.entries.+show_item+show_round+show_rounds.Lts-show_rounds as show-rounds-lts
+use Rattle.listing.proofs.entries.span_of.Reads as span-of-reads
+use Rattle.listing.proofs.names.say_kind.Reads as say-kind-reads
+use Rattle.listing.proofs.names.say_position.Reads as say-position-reads
+use Rattle.listing.proofs.parts.child.Reads as child-reads
+use Rattle.listing.proofs.value.say_value.Reads as say-value-reads
+use Rattle.words.proofs.indent.Reads as indent-reads
+use Rattle.words.proofs.say.Reads as say-reads
+use Rattle.table.proofs.child_count.Reads as child-count-reads
+use Rattle.table.proofs.kind_at.Reads as kind-at-reads
+use Rattle.listing.proofs.entries.+show_item+show_round+show_rounds.{statement}
+use Rattle.listing.proofs.entries.+show_item+show_round+show_rounds.Tie.{close}
+
+abbrev μ-show-item : Measures 3 show-item-kinds.ps ℕ
+μ-show-item κs a = a .1 .1 .0 + a .1 .1 .0 + a .1 .1 .0 + 2
+
+abbrev μ-show-round : Measures 3 show-round-kinds.ps ℕ
+μ-show-round κs a = a .1 .1 .0 + a .1 .1 .0 + a .1 .1 .0
+
+abbrev μ-show-rounds : Measures 3 show-rounds-kinds.ps ℕ
+μ-show-rounds κs a = a .1 .1 .0 + a .1 .1 .0 + a .1 .1 .0 + 1
+
+abbrev show-item-at : ℕ → In 3 show-item-kinds.ps
+show-item-at t = and 3 show-item-kinds.ps (is 3 show-item-kinds.ps μ-show-item t) show-item.Pre
+
+abbrev show-item-below : ℕ → In 3 show-item-kinds.ps
+show-item-below t =
+    and 3 show-item-kinds.ps (falls 3 show-item-kinds.ps _<_ μ-show-item t) show-item.Pre
+
+abbrev show-round-at : ℕ → In 3 show-round-kinds.ps
+show-round-at t =
+    and 3 show-round-kinds.ps (is 3 show-round-kinds.ps μ-show-round t) show-round.Pre
+
+abbrev show-round-below : ℕ → In 3 show-round-kinds.ps
+show-round-below t =
+    and 3 show-round-kinds.ps (falls 3 show-round-kinds.ps _<_ μ-show-round t) show-round.Pre
+
+abbrev show-rounds-at : ℕ → In 3 show-rounds-kinds.ps
+show-rounds-at t =
+    and 3 show-rounds-kinds.ps (is 3 show-rounds-kinds.ps μ-show-rounds t) show-rounds.Pre
+
+abbrev show-rounds-below : ℕ → In 3 show-rounds-kinds.ps
+show-rounds-below t =
+    and 3 show-rounds-kinds.ps (falls 3 show-rounds-kinds.ps _<_ μ-show-rounds t) show-rounds.Pre
+
+abbrev show-item-calls : ℕ → show-item-lts.Claims
+show-item-calls t = (kind-at-reads.Asked, kind-at-reads.Learnt, child-count-reads.Asked, child-count-reads.Learnt, say-kind-reads.Asked, say-kind-reads.Learnt, say-value-reads.Asked, say-value-reads.Learnt, say-reads.Asked, say-reads.Learnt, span-of-reads.Asked, span-of-reads.Learnt, show-rounds-below t, show-rounds.Post)
+
+abbrev show-round-calls : ℕ → show-round-lts.Claims
+show-round-calls t = (kind-at-reads.Asked, kind-at-reads.Learnt, indent-reads.Asked, indent-reads.Learnt, say-position-reads.Asked, say-position-reads.Learnt, say-reads.Asked, say-reads.Learnt, child-reads.Asked, child-reads.Learnt, show-item-below t, show-item.Post)
+
+abbrev show-rounds-calls : ℕ → show-rounds-lts.Claims
+show-rounds-calls t = (show-round-below t, show-round.Post)
+
+show-item-kind-at-requires : (t : ℕ) → show-item-lts.Need-kind-at-requires (show-item-calls t) (show-item-at t) show-item.Post
+show-item-kind-at-requires t c κs = search needs
+
+show-item-child-count-requires : (t : ℕ) → show-item-lts.Need-child-count-requires (show-item-calls t) (show-item-at t) show-item.Post
+show-item-child-count-requires t c κs = search needs
+
+show-item-mul-first : (t : ℕ) → show-item-lts.Need-mul-first (show-item-calls t) (show-item-at t) show-item.Post
+show-item-mul-first t c = search needs
+
+show-item-mul-first-2 : (t : ℕ) → show-item-lts.Need-mul-first-2 (show-item-calls t) (show-item-at t) show-item.Post
+show-item-mul-first-2 t c = search needs
+
+show-item-shared-slice-read-first : (t : ℕ) → show-item-lts.Need-shared-slice-read-first (show-item-calls t) (show-item-at t) show-item.Post
+show-item-shared-slice-read-first t c = search needs
+
+show-item-mul-second : (t : ℕ) → show-item-lts.Need-mul-second (show-item-calls t) (show-item-at t) show-item.Post
+show-item-mul-second t c = search needs
+
+show-item-add-second : (t : ℕ) → show-item-lts.Need-add-second (show-item-calls t) (show-item-at t) show-item.Post
+show-item-add-second t c = search needs
+
+show-item-mul-second-2 : (t : ℕ) → show-item-lts.Need-mul-second-2 (show-item-calls t) (show-item-at t) show-item.Post
+show-item-mul-second-2 t c = search needs
+
+show-item-shared-slice-read-second : (t : ℕ) → show-item-lts.Need-shared-slice-read-second (show-item-calls t) (show-item-at t) show-item.Post
+show-item-shared-slice-read-second t c = search needs
+
+show-item-say-kind-requires : (t : ℕ) → show-item-lts.Need-say-kind-requires (show-item-calls t) (show-item-at t) show-item.Post
+show-item-say-kind-requires t c κs = search needs
+
+show-item-say-value-requires : (t : ℕ) → show-item-lts.Need-say-value-requires (show-item-calls t) (show-item-at t) show-item.Post
+show-item-say-value-requires t c κs = search needs
+
+show-item-slice-aggregate-say : (t : ℕ) → show-item-lts.Need-slice-aggregate-say (show-item-calls t) (show-item-at t) show-item.Post
+show-item-slice-aggregate-say t c = search needs
+
+show-item-say-requires : (t : ℕ) → show-item-lts.Need-say-requires (show-item-calls t) (show-item-at t) show-item.Post
+show-item-say-requires t c κs = search needs
+
+show-item-span-of-requires : (t : ℕ) → show-item-lts.Need-span-of-requires (show-item-calls t) (show-item-at t) show-item.Post
+show-item-span-of-requires t c κs = search needs
+
+show-item-add-show-rounds : (t : ℕ) → show-item-lts.Need-add-show-rounds (show-item-calls t) (show-item-at t) show-item.Post
+show-item-add-show-rounds t c = search needs
+
+show-item-add-show-rounds-2 : (t : ℕ) → show-item-lts.Need-add-show-rounds-2 (show-item-calls t) (show-item-at t) show-item.Post
+show-item-add-show-rounds-2 t c = search needs
+
+show-item-show-rounds-requires : (t : ℕ) → show-item-lts.Need-show-rounds-requires (show-item-calls t) (show-item-at t) show-item.Post
+show-item-show-rounds-requires t c κs = let p = c .before .before .before .before .before .before .before .before .before .before .before .before .pre in (search needs, (p .1 .0, search needs))
+
+show-item-returns : (t : ℕ) → show-item-lts.Need-returns (show-item-calls t) (show-item-at t) show-item.Post
+show-item-returns t c = search needs
+
+abbrev show-round-Inv-loop : show-round-lts.InvT-loop
+show-round-Inv-loop table l node from to round depth words count message at number next₀ k₀ t16 next k = next ≤ count
+
+abbrev show-round-μ-loop : show-round-lts.MeasureT-loop
+show-round-μ-loop table l node from to round depth words count message at number next₀ k₀ t16 next k = to - k
+
+show-round-kind-at-requires : (t : ℕ) → show-round-lts.Need-kind-at-requires (show-round-calls t) (show-round-at t) show-round.Post show-round-Inv-loop show-round-μ-loop
+show-round-kind-at-requires t c κs = search needs
+
+show-round-loop-holds : (t : ℕ) → show-round-lts.Need-loop-holds (show-round-calls t) (show-round-at t) show-round.Post show-round-Inv-loop show-round-μ-loop
+show-round-loop-holds t c = search needs
+
+show-round-returns : (t : ℕ) → show-round-lts.Need-returns (show-round-calls t) (show-round-at t) show-round.Post show-round-Inv-loop show-round-μ-loop
+show-round-returns t c = search needs
+
+show-round-indent-requires : (t : ℕ) → show-round-lts.Need-indent-requires (show-round-calls t) (show-round-at t) show-round.Post show-round-Inv-loop show-round-μ-loop
+show-round-indent-requires t c κs = search needs
+
+show-round-say-position-requires : (t : ℕ) → show-round-lts.Need-say-position-requires (show-round-calls t) (show-round-at t) show-round.Post show-round-Inv-loop show-round-μ-loop
+show-round-say-position-requires t c κs = search needs
+
+show-round-slice-aggregate-say : (t : ℕ) → show-round-lts.Need-slice-aggregate-say (show-round-calls t) (show-round-at t) show-round.Post show-round-Inv-loop show-round-μ-loop
+show-round-slice-aggregate-say t c = search needs
+
+show-round-say-requires : (t : ℕ) → show-round-lts.Need-say-requires (show-round-calls t) (show-round-at t) show-round.Post show-round-Inv-loop show-round-μ-loop
+show-round-say-requires t c κs = search needs
+
+show-round-child-requires : (t : ℕ) → show-round-lts.Need-child-requires (show-round-calls t) (show-round-at t) show-round.Post show-round-Inv-loop show-round-μ-loop
+show-round-child-requires t c κs = search needs
+
+show-round-show-item-requires : (t : ℕ) → show-round-lts.Need-show-item-requires (show-round-calls t) (show-round-at t) show-round.Post show-round-Inv-loop show-round-μ-loop
+show-round-show-item-requires t c κs = let p = c .before .before .before .before .before .before .before .before .before .before .before .before .pre in (search needs, (p .1 .0, search needs))
+
+show-round-add-k : (t : ℕ) → show-round-lts.Need-add-k (show-round-calls t) (show-round-at t) show-round.Post show-round-Inv-loop show-round-μ-loop
+show-round-add-k t c = search needs
+
+show-round-loop-less : (t : ℕ) → show-round-lts.Need-loop-less (show-round-calls t) (show-round-at t) show-round.Post show-round-Inv-loop show-round-μ-loop
+show-round-loop-less t c = search needs
+
+show-round-loop-again : (t : ℕ) → show-round-lts.Need-loop-again (show-round-calls t) (show-round-at t) show-round.Post show-round-Inv-loop show-round-μ-loop
+show-round-loop-again t c = search needs
+
+show-round-returns-2 : (t : ℕ) → show-round-lts.Need-returns-2 (show-round-calls t) (show-round-at t) show-round.Post show-round-Inv-loop show-round-μ-loop
+show-round-returns-2 t c = search needs
+
+abbrev show-rounds-Inv-loop : show-rounds-lts.InvT-loop
+show-rounds-Inv-loop table l node way depth words count message at next₀ round₀ next round = next ≤ count
+
+abbrev show-rounds-μ-loop : show-rounds-lts.MeasureT-loop
+show-rounds-μ-loop table l node way depth words count message at next₀ round₀ next round = way .rounds - round
+
+show-rounds-loop-holds : (t : ℕ) → show-rounds-lts.Need-loop-holds (show-rounds-calls t) (show-rounds-at t) show-rounds.Post show-rounds-Inv-loop show-rounds-μ-loop
+show-rounds-loop-holds t c = search needs
+
+show-rounds-returns :
+    (t : ℕ) →
+    show-rounds-lts.Need-returns
+    (show-round-below t, show-round.Post)
+    (show-rounds-at t)
+    show-rounds.Post
+    show-rounds-Inv-loop
+    show-rounds-μ-loop
+show-rounds-returns t c = search needs
+
+show-rounds-show-round-requires : (t : ℕ) → show-rounds-lts.Need-show-round-requires (show-rounds-calls t) (show-rounds-at t) show-rounds.Post show-rounds-Inv-loop show-rounds-μ-loop
+show-rounds-show-round-requires t c κs = let p = c .before .before .before .before .before .before .before .pre in (search needs, (p .1 .0, search needs))
+
+show-rounds-add-round : (t : ℕ) → show-rounds-lts.Need-add-round (show-rounds-calls t) (show-rounds-at t) show-rounds.Post show-rounds-Inv-loop show-rounds-μ-loop
+show-rounds-add-round t c = search needs
+
+show-rounds-loop-less : (t : ℕ) → show-rounds-lts.Need-loop-less (show-rounds-calls t) (show-rounds-at t) show-rounds.Post show-rounds-Inv-loop show-rounds-μ-loop
+show-rounds-loop-less t c = search needs
+
+show-rounds-loop-again : (t : ℕ) → show-rounds-lts.Need-loop-again (show-rounds-calls t) (show-rounds-at t) show-rounds.Post show-rounds-Inv-loop show-rounds-μ-loop
+show-rounds-loop-again t c = search needs
+
+show-rounds-returns-2 : (t : ℕ) → show-rounds-lts.Need-returns-2 (show-rounds-calls t) (show-rounds-at t) show-rounds.Post show-rounds-Inv-loop show-rounds-μ-loop
+show-rounds-returns-2 t c = search needs
+
+pub +show-item+show-round+show-rounds-spec : {M : Type 1} → statement M
++show-item+show-round+show-rounds-spec =
+    close μ-show-item μ-show-round μ-show-rounds (λ t. show-item-lts.spec (
+      kind-at-reads.Asked,
+      kind-at-reads.Learnt,
+      child-count-reads.Asked,
+      child-count-reads.Learnt,
+      say-kind-reads.Asked,
+      say-kind-reads.Learnt,
+      say-value-reads.Asked,
+      say-value-reads.Learnt,
+      say-reads.Asked,
+      say-reads.Learnt,
+      span-of-reads.Asked,
+      span-of-reads.Learnt,
+      show-rounds-below t,
+      show-rounds.Post,
+    )
+    (show-item-at t)
+    show-item.Post
+    (show-item-kind-at-requires t)
+    (show-item-child-count-requires t)
+    (show-item-mul-first t)
+    (show-item-mul-first-2 t)
+    (show-item-shared-slice-read-first t)
+    (show-item-mul-second t)
+    (show-item-add-second t)
+    (show-item-mul-second-2 t)
+    (show-item-shared-slice-read-second t)
+    (show-item-say-kind-requires t)
+    (show-item-say-value-requires t)
+    (show-item-slice-aggregate-say t)
+    (show-item-say-requires t)
+    (show-item-span-of-requires t)
+    (show-item-add-show-rounds t)
+    (show-item-add-show-rounds-2 t)
+    (show-item-show-rounds-requires t)
+    (show-item-returns t))
+    (λ t. show-round-lts.spec (
+      kind-at-reads.Asked,
+      kind-at-reads.Learnt,
+      indent-reads.Asked,
+      indent-reads.Learnt,
+      say-position-reads.Asked,
+      say-position-reads.Learnt,
+      say-reads.Asked,
+      say-reads.Learnt,
+      child-reads.Asked,
+      child-reads.Learnt,
+      show-item-below t,
+      show-item.Post,
+    )
+    (show-round-at t)
+    show-round.Post
+    show-round-Inv-loop
+    show-round-μ-loop
+    (show-round-kind-at-requires t)
+    (show-round-loop-holds t)
+    (show-round-returns t)
+    (show-round-indent-requires t)
+    (show-round-say-position-requires t)
+    (show-round-slice-aggregate-say t)
+    (show-round-say-requires t)
+    (show-round-child-requires t)
+    (show-round-show-item-requires t)
+    (show-round-add-k t)
+    (show-round-loop-less t)
+    (show-round-loop-again t)
+    (show-round-returns-2 t))
+    λ t. show-rounds-lts.spec
+    (show-round-below t, show-round.Post)
+    (show-rounds-at t)
+    show-rounds.Post
+    show-rounds-Inv-loop
+    show-rounds-μ-loop
+    (show-rounds-loop-holds t)
+    (show-rounds-returns t)
+    (show-rounds-show-round-requires t)
+    (show-rounds-add-round t)
+    (show-rounds-loop-less t)
+    (show-rounds-loop-again t)
+    (show-rounds-returns-2 t)

@@ -1,0 +1,64 @@
+-- `listing::entries::show` is safe: a table that passes the check is good.
+-- Assumes nothing.
+use mathlib.Core.Path.{sym, _∙_}
+use Rattle.laws.proofs.Tables.{good-table}
+use borrow.Author.Needs.{needs}
+use Rattle.listing.proofs.entries.show.Statement.{statement}
+use Rattle.listing.proofs.entries.show.Tie as tie
+
+check-requires : tie.Need-check-requires
+check-requires c κs = search needs
+
+enum-known-why : tie.Need-enum-known-why
+enum-known-why c = search needs
+
+say-bad-requires : tie.Need-say-bad-requires
+say-bad-requires c κs = search needs
+
+enum-known-layout : tie.Need-enum-known-layout
+enum-known-layout c = search needs
+
+words-room-requires : tie.Need-words-room-requires
+words-room-requires c κs = search needs
+
+slice-aggregate-read : tie.Need-slice-aggregate-read
+slice-aggregate-read c = search needs
+
+read-requires : tie.Need-read-requires
+read-requires c κs = search needs
+
+slice-aggregate-show-entries : tie.Need-slice-aggregate-show-entries
+slice-aggregate-show-entries c = search needs
+
+made-requires : tie.Need-made-requires
+made-requires c κs = search needs
+
+show-entries-requires : tie.Need-show-entries-requires
+show-entries-requires c κs = good-table _ _ (sym (c .before .before .before .before .before .before .before .before .before .check .ensures) ∙ c .before .before .before .before .before .before .before .layout .given .1)
+
+show-end-requires : tie.Need-show-end-requires
+show-end-requires c κs = search needs
+
+returns : tie.Need-returns
+returns c = search needs
+
+returns-2 : tie.Need-returns-2
+returns-2 c = search needs
+
+pub show-spec : {M : Type 1} → statement M
+show-spec =
+    tie.close
+    (tie.spec
+    check-requires
+    enum-known-why
+    say-bad-requires
+    enum-known-layout
+    words-room-requires
+    slice-aggregate-read
+    read-requires
+    slice-aggregate-show-entries
+    made-requires
+    show-entries-requires
+    show-end-requires
+    returns
+    returns-2)

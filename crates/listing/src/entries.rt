@@ -1,0 +1,242 @@
+// A message's entries, each on a line, indented as the shape is.
+use crate::names::say_kind;
+use crate::names::say_position;
+use crate::parts::child;
+use crate::tree::say_bad;
+use crate::value::say_value;
+use wire::Checked;
+use wire::Layout;
+use wire::ReadAnswer;
+use words::indent;
+use words::say;
+use words::say_bytes;
+use words::say_count;
+use words::say_number;
+use words::say_why;
+ghost use mathlib.Core.Path.{_≡_};
+ghost use Prim.Native.Nat.{_+_, _*_, _≤_, _<_};
+ghost use lib.ListN.{length};
+ghost use Rattle.wire.specs.Table.{nodeAt, recordOf};
+ghost use Rattle.laws.specs.Tables.{nodeCount, GoodTable};
+
+// What follows an item: rounds over the children from one position up to another.
+struct Span {
+    rounds: u64,
+    from: usize,
+    to: usize,
+}
+
+fn span_of(number: u8, first: u64, width: usize) -> Span
+    ensures { λ r. ⌜ r .to ≤ width ⌝ }
+{
+    match number {
+        15..=17 => Span {
+            rounds: first,
+            from: 0,
+            to: width,
+        },
+        19 => {
+            let from = first as usize;
+            if from < width {
+                return Span {
+                    rounds: 1,
+                    from,
+                    to: from + 1,
+                };
+            }
+            Span {
+                rounds: 0,
+                from: 0,
+                to: 0,
+            }
+        }
+        _ => Span {
+            rounds: 1,
+            from: 0,
+            to: width,
+        },
+    }
+}
+
+// The item of the entry `at` and those below it, and the entry that comes next.
+fn show_item(
+    table: &[u8],
+    l: Layout,
+    node: usize,
+    depth: usize,
+    words: &[u64],
+    count: usize,
+    message: &[u8],
+    at: usize,
+) -> usize
+    requires { ⌜ GoodTable (now table) l ⌝ }
+    requires { ⌜ (node < l .nodes) × (depth + node ≤ 256) ⌝ }
+    requires { ⌜ (at < count) × (2 * count ≤ length (now words)) ⌝ }
+    ensures { λ r. ⌜ r ≤ count ⌝ }
+{
+    let number = table::kind_at(table, l, node);
+    let width = table::child_count(table, l, node);
+    let first = words[2 * at];
+    let second = words[2 * at + 1];
+    say_kind(number);
+    say_value(number, width, first, second, message);
+    say(b"\n");
+    let way = span_of(number, first, width);
+    show_rounds(
+        table,
+        l,
+        node,
+        way,
+        depth + 1,
+        words,
+        count,
+        message,
+        at + 1,
+    )
+}
+
+fn show_rounds(
+    table: &[u8],
+    l: Layout,
+    node: usize,
+    way: Span,
+    depth: usize,
+    words: &[u64],
+    count: usize,
+    message: &[u8],
+    at: usize,
+) -> usize
+    requires { ⌜ GoodTable (now table) l ⌝ }
+    requires { ⌜ (node < l .nodes) × (depth + node ≤ 257) ⌝ }
+    requires { ⌜ way .to ≤ nodeCount (nodeAt (now table) (recordOf l node)) ⌝ }
+    requires { ⌜ (at ≤ count) × (2 * count ≤ length (now words)) ⌝ }
+    ensures { λ r. ⌜ r ≤ count ⌝ }
+{
+    let mut next = at;
+    let mut round = 0;
+    while round < way.rounds {
+        if count <= next {
+            return next;
+        }
+        next = show_round(
+            table,
+            l,
+            node,
+            way.from,
+            way.to,
+            round,
+            depth,
+            words,
+            count,
+            message,
+            next,
+        );
+        round += 1;
+    }
+    next
+}
+
+fn show_round(
+    table: &[u8],
+    l: Layout,
+    node: usize,
+    from: usize,
+    to: usize,
+    round: u64,
+    depth: usize,
+    words: &[u64],
+    count: usize,
+    message: &[u8],
+    at: usize,
+) -> usize
+    requires { ⌜ GoodTable (now table) l ⌝ }
+    requires { ⌜ (node < l .nodes) × (depth + node ≤ 257) ⌝ }
+    requires { ⌜ to ≤ nodeCount (nodeAt (now table) (recordOf l node)) ⌝ }
+    requires { ⌜ (at ≤ count) × (2 * count ≤ length (now words)) ⌝ }
+    ensures { λ r. ⌜ r ≤ count ⌝ }
+{
+    let number = table::kind_at(table, l, node);
+    let mut next = at;
+    let mut k = from;
+    while k < to {
+        if count <= next {
+            return next;
+        }
+        indent(depth);
+        say_position(number, round, k as u64);
+        say(b": ");
+        let c = child(table, l, node, k);
+        next = show_item(table, l, c, depth, words, count, message, next);
+        k += 1;
+    }
+    next
+}
+
+// The entries that were made, if there are so many words.
+fn show_entries(table: &[u8], l: Layout, words: &[u64], count: usize, message: &[u8])
+    requires { ⌜ GoodTable (now table) l ⌝ }
+{
+    if 0 < count {
+        if count <= words.len() / 2 {
+            let root = l.root;
+            say(b"root: ");
+            show_item(table, l, root, 0, words, count, message, 0);
+        }
+    }
+}
+
+fn show_end(message: &[u8], answer: ReadAnswer) {
+    match answer {
+        ReadAnswer::Done { place, count: _ } => {
+            say(b"read ");
+            say_count(place as u64, b"byte");
+            say(b"; rest:");
+            say_bytes(reader::rest(message, answer));
+            say(b"\n");
+        }
+        ReadAnswer::Refused {
+            why,
+            place,
+            count: _,
+        } => {
+            say(b"refused: ");
+            say_why(why);
+            say(b", at byte ");
+            say_number(place as u64);
+            say(b"\n");
+        }
+    }
+}
+
+// The words of 16,384 entries, for a store or a value list.
+const WORDS: usize = 32768;
+
+pub fn words_room() -> [u64; WORDS]
+    ensures { λ r. ⌜ 32768 ≡ length r ⌝ }
+{
+    [0; WORDS]
+}
+
+fn made(answer: ReadAnswer) -> usize {
+    match answer {
+        ReadAnswer::Done { place: _, count } => count,
+        ReadAnswer::Refused {
+            why: _,
+            place: _,
+            count,
+        } => count,
+    }
+}
+
+// A message read by a table: its entries, and the rest or why it is refused. There is room for 16,384 entries.
+pub fn show(table: &[u8], message: &[u8]) {
+    match table::check(table) {
+        Checked::Bad { why, place } => say_bad(why, place),
+        Checked::Good { layout } => {
+            let mut store = words_room();
+            let answer = reader::read(table, message, &mut store);
+            show_entries(table, layout, &store, made(answer), message);
+            show_end(message, answer);
+        }
+    }
+}

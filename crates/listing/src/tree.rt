@@ -1,0 +1,114 @@
+// A table's shape as an indented tree.
+use crate::names::say_child;
+use crate::names::say_kind;
+use crate::parts::child;
+use wire::Checked;
+use wire::Layout;
+use wire::Refusal;
+use words::indent;
+use words::say;
+use words::say_count;
+use words::say_number;
+use words::say_why;
+ghost use mathlib.Core.Path.{_≡_};
+ghost use Prim.Native.Nat.{_+_, _≤_, _<_};
+ghost use lib.ListN.{length};
+ghost use Rattle.wire.specs.Table.{nodeAt, recordOf};
+ghost use Rattle.laws.specs.Tables.{nodeCount, GoodTable};
+
+// A table that is not good: why, and where.
+pub fn say_bad(why: Refusal, place: usize) {
+    say(b"the table is not good: ");
+    say_why(why);
+    match why {
+        Refusal::Record => say(b", at node "),
+        _ => say(b", at place "),
+    }
+    say_number(place as u64);
+    say(b"\n");
+}
+
+// How many children a struct or an enum has; the other kinds' are always as many.
+fn say_width(number: u8, width: usize) {
+    match number {
+        18 => {
+            say(b" of ");
+            say_count(width as u64, b"field");
+        }
+        19 => {
+            say(b" of ");
+            say_count(width as u64, b"variant");
+        }
+        _ => {}
+    }
+}
+
+pub fn say_node(table: &[u8], l: Layout, node: usize)
+    requires { ⌜ GoodTable (now table) l ⌝ }
+    requires { ⌜ node < l .nodes ⌝ }
+{
+    say(b"node ");
+    say_number(node as u64);
+    say(b", ");
+    let number = table::kind_at(table, l, node);
+    say_kind(number);
+    say_width(number, table::child_count(table, l, node));
+}
+
+// Whether a node wasn't seen before; now it is.
+fn is_new(seen: &mut [u8], node: usize) -> bool
+    requires { ⌜ node < length (now seen) ⌝ }
+{
+    let new = seen[node] == 0;
+    seen[node] = 1;
+    new
+}
+
+// A node and what is below it; what was shown before isn't shown again, since a shape may be much larger than its table.
+fn show_node(table: &[u8], l: Layout, node: usize, depth: usize, seen: &mut [u8])
+    requires { ⌜ GoodTable (now table) l ⌝ }
+    requires { ⌜ (node < l .nodes) × (depth + node ≤ 256) × (length (now seen) ≡ 256) ⌝ }
+{
+    say_node(table, l, node);
+    let width = table::child_count(table, l, node);
+    if width == 0 {
+        return say(b"\n");
+    }
+    if !is_new(seen, node) {
+        return say(b", as above\n");
+    }
+    say(b"\n");
+    show_children(table, l, node, width, depth + 1, seen);
+}
+
+fn show_children(table: &[u8], l: Layout, node: usize, width: usize, depth: usize, seen: &mut [u8])
+    requires { ⌜ GoodTable (now table) l ⌝ }
+    requires { ⌜ (node < l .nodes) × (depth + node ≤ 257) × (length (now seen) ≡ 256) ⌝ }
+    requires { ⌜ width ≡ nodeCount (nodeAt (now table) (recordOf l node)) ⌝ }
+{
+    let number = table::kind_at(table, l, node);
+    let mut k = 0;
+    while k < width {
+        indent(depth);
+        say_child(number, k as u64);
+        say(b": ");
+        let c = child(table, l, node, k);
+        show_node(table, l, c, depth, seen);
+        k += 1;
+    }
+}
+
+// Whether a table is good, and its tree.
+pub fn show(table: &[u8]) {
+    match table::check(table) {
+        Checked::Bad { why, place } => say_bad(why, place),
+        Checked::Good { layout } => {
+            say(b"good table of ");
+            say_count(layout.nodes as u64, b"node");
+            say(b"\nroot: ");
+            let root = layout.root;
+            let mut seen = [0u8; 256];
+            show_node(table, layout, root, 0, &mut seen);
+        }
+    }
+}

@@ -188,6 +188,7 @@ pub fn read<'m>(table: &[u8], message: &'m [u8], store: &mut [u64]) -> Result<Re
 
 /// Writes a value list whose texts and bytes stand in the pool: how many bytes were written.
 /// On a refusal the output is unchanged.
+#[inline]
 pub fn write(table: &[u8], words: &[u64], pool: &[u8], out: &mut [u8]) -> Result<usize, Refused> {
     let mut place = 0;
     // SAFETY: each slice is lent with its own length; `out` is borrowed for us alone.

@@ -4,11 +4,14 @@ use mathlib.Core.Path.{_≡_}
 use mathlib.Core.Bool.{Bool, true, false}
 use mathlib.Core.List.{List}
 use mathlib.Core.Option.{Option, some, none}
-use Prim.Native.Nat.{ℕ, _%_, _<_, _≤_}
+use Prim.Native.Nat.{ℕ, _+_, _*_, _/_, _%_, _<_, _≤_}
+use lib.ListN.{length, getD}
 use lib.Dec.{ltb, eqb}
 use Rattle.wire.specs.Tests.{pick}
 use Rattle.wire.specs.Shape.{Width, w16, w32, w64, Sign, signed, unsigned, Kind}
+use Rattle.wire.specs.Table.{kindOf}
 use Rattle.wire.specs.Writing.{headBytes}
+use Rattle.wire.specs.Answers.{wordsPer}
 use Rattle.writer.specs.Bytes.{Puts}
 
 -- six integers in the order of their kinds
@@ -44,6 +47,16 @@ pub record JudgesLeaf (k : Kind) (a : ℕ) (r : Bool) : Type 0 where
 -- that of an item with n children, with any second word, unless it was judged
 pub record Lets (judged : Bool) (k : Kind) (n a b : ℕ) (r : Bool) : Type 0 where
   pub at : (pool : List ℕ) → Known judged (headBytes k n pool a b) → r ≡ isSome (headBytes k n pool a b)
+
+-- that of the entry `at`, an integer's of the kind's number k, where even the longest varint has its places
+pub record Fitting (k : ℕ) (ws : List ℕ) (at room : ℕ) : Type 0 where
+  pub low : k ≤ 8
+  pub wide : 10 ≤ room
+  pub more : at < length ws / wordsPer
+  pub fits : (pool : List ℕ) → isSome (headBytes (kindOf k) 0 pool (getD ws (wordsPer * at) 0) (getD ws (wordsPer * at + 1) 0)) ≡ true
+
+pub record Ready (k : ℕ) (ws : List ℕ) (at room : ℕ) (r : Bool) : Type 0 where
+  pub is : r ≡ true → Fitting k ws at room
 
 -- ---- the bytes of an entry that some value has
 

@@ -8,7 +8,7 @@ use lib.ListN.{length, drop}
 use Rattle.wire.specs.declared.Layout.{Layout}
 use Rattle.wire.specs.Shape.{Kind, struct}
 use Rattle.wire.specs.Walk.{times}
-use Rattle.wire.specs.Table.{shapesAt}
+use Rattle.wire.specs.Table.{shapesAt, shapeOf}
 use Rattle.wire.specs.Writing.{Left, Wrote, wrote, misfit, after, writeNothing, writeItem, writing, write}
 use Rattle.wire.specs.Answers.{wordsPer, entriesOf}
 use Rattle.laws.specs.Steps.{row}
@@ -20,6 +20,7 @@ use Rattle.writer.specs.declared.Put.the-variants.{Done, Misfit}
 use Rattle.writer.specs.declared.Entered.{Entered}
 use Rattle.writer.specs.declared.Entered.the-variants as entered
 use Rattle.writer.specs.declared.Way.{Way}
+use Rattle.writer.specs.declared.Ahead.{Ahead}
 use Rattle.writer.specs.declared.Begun.{Begun}
 use Rattle.writer.specs.declared.Begun.the-variants as begun
 use Rattle.writer.specs.Bytes.{Puts}
@@ -90,3 +91,12 @@ BeginsBy h ws at begun.Misfit pool n f = headed h pool n f (entries ws at) ≡ m
 
 pub record Begins (h : Bool) (ws : List ℕ) (at : ℕ) (r : Begun) : Type 0 where
   pub holds : (pool : List ℕ) (n : ℕ) (f : Left → Wrote) → BeginsBy h ws at r pool n f
+
+-- with any pool, a row was put up to the numbers that are left, which fall
+pub record Leads (s : List ℕ) (l : Layout) (from n : ℕ) (ws : List ℕ) (at : ℕ) (before : List ℕ) (r : Ahead) (out : List ℕ) : Type 0 where
+  pub falls : Falls s (r .child) (r .left) (l .nodes)
+  pub going : (pool : List ℕ) → Going (writeRow s l pool from n (entries ws at)) (writeRow s l pool (r .child) (r .left) (entries ws (r .at))) 0 before (r .used) out
+
+-- where none are left, the whole list was put
+pub record Whole (s : List ℕ) (l : Layout) (ws before : List ℕ) (r : Ahead) (out : List ℕ) : Type 0 where
+  pub all : r .left ≡ 0 → (pool : List ℕ) → Gives (write (shapeOf s l) pool (entries ws 0)) ws 0 before (Done (r .at) (r .used)) out

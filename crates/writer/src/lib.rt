@@ -29,14 +29,17 @@ ghost use Rattle.fixint.specs.Sizes.{orderOf};
 ghost use Rattle.utf8.specs.Contents.{contentIf};
 ghost use Rattle.table.specs.Parts.{Falls};
 ghost use Rattle.writer.specs.Bytes.{cap, Places, Puts};
-ghost use Rattle.writer.specs.Own.{signAt, widthAt, isSome, IsLeaf, Known, JudgesLeaf, Judges, Lets, Fits, Spells, SpellsEntry};
-ghost use Rattle.writer.specs.Steps.{entries, writeLeaf, writeNode, writeRow, writeRounds, Sure, Gives, Enters, Flat, Begins};
+ghost use Rattle.writer.specs.Own.{signAt, widthAt, isSome, IsLeaf, Known, JudgesLeaf, Judges, Lets, Fits, Ready, Spells, SpellsEntry};
+ghost use Rattle.writer.specs.Steps.{entries, writeLeaf, writeNode, writeRow, writeRounds, Sure, Gives, Enters, Flat, Begins, Leads, Whole};
 ghost use Rattle.writer.specs.Promise.{Writes};
 
 const LARGEST: usize = 0xffff_ffff_ffff_ffff;
 
 // So long is a form that the first pass keeps.
 const SHORT: usize = 64;
+
+// So many words at most has a list that is tried as a few integers.
+const FEW: usize = 32;
 
 // How far a list is written: the next entry and how many bytes there are now; or the entry that does not fit.
 enum Put {
@@ -55,6 +58,15 @@ struct Way {
     headed: bool,
     from: usize,
     width: usize,
+}
+
+// How far integers in front of a row were put: the next entry, how many bytes there are now, and where the numbers that are left
+// stand, and how many.
+struct Ahead {
+    at: usize,
+    used: usize,
+    child: usize,
+    left: usize,
 }
 
 // Where the nodes of a round begin; or that no value has the entry that heads it.
@@ -854,6 +866,129 @@ fn write_entries(table: &[u8], l: Layout, words: &[u64], pool: &[u8], out: &mut 
     }
 }
 
+// ---- a short list of integers, which needs neither the cycle nor a second pass
+
+// Whether an entry is that of an integer that some value has, where so many places are left.
+fn is_ready(number: u8, words: &[u64], at: usize, room: usize) -> bool
+    ensures { λ r. ⌜ Ready number (now (words .entry)) at room r ⌝ }
+{
+    if 9 <= number {
+        return false;
+    }
+    if room < varint::U64::MOST {
+        return false;
+    }
+    if words.len() / 2 <= at {
+        return false;
+    }
+    let i = 2 * at;
+    let first = words[i];
+    let second = words[i + 1];
+    if second == 0 {
+        return fits_int(number, first);
+    }
+    false
+}
+
+// An integer's bytes, where even the longest varint has its places.
+fn put_ready(number: u8, first: u64, out: &mut [u8], used: usize) -> usize
+    requires { ⌜ number ≤ 8 ⌝ }
+    requires { ⌜ used + 10 ≤ length (now out) ⌝ }
+    ensures { λ r. ⌜ Spells (kindOf number) first used (now (out .entry)) r (now (out .exit)) ⌝ }
+{
+    match number {
+        0 | 1 => put_byte((first % 256) as u8, out, used),
+        2..=4 => put_inside(zigzag::zigzag(first), out, used),
+        5 => put_byte((first % 256) as u8, out, used),
+        _ => put_inside(first, out, used),
+    }
+}
+
+// The integers in front of a row, up to an entry that no value has or one that might not have its places.
+fn put_ints(
+    table: &[u8],
+    l: Layout,
+    from: usize,
+    width: usize,
+    words: &[u64],
+    at: usize,
+    out: &mut [u8],
+) -> Ahead
+    requires { ⌜ GoodTable (now table) l ⌝ }
+    requires { ⌜ Falls (now table) from width (l .nodes) ⌝ }
+    ensures { λ r. ⌜ Leads (now (table .entry)) l from width (now (words .entry)) at (now (out .entry)) r (now (out .exit)) ⌝ }
+{
+    let mut i = at;
+    let mut n: usize = 0;
+    let mut field = from;
+    let mut left = width;
+    while 0 < left {
+        let c = table::u16_at(table, field);
+        let number = table::kind_at(table, l, c);
+        let room = places(out.len(), n, varint::U64::MOST);
+        if !is_ready(number, words, i, room) {
+            return Ahead {
+                at: i,
+                used: n,
+                child: field,
+                left,
+            };
+        }
+        let first = words[2 * i];
+        n = put_ready(number, first, out, n);
+        i = i + 1;
+        field = field + 2;
+        left = left - 1;
+    }
+    Ahead {
+        at: i,
+        used: n,
+        child: field,
+        left,
+    }
+}
+
+// The integers in front of the whole list. None are left if it has nothing else.
+fn put_front(table: &[u8], l: Layout, words: &[u64], out: &mut [u8]) -> Ahead
+    requires { ⌜ checkOf (now table) ≡ Good l ⌝ }
+    ensures { λ r. ⌜ Whole (now (table .entry)) l (now (words .entry)) (now (out .entry)) r (now (out .exit)) ⌝ }
+{
+    let from = table::root_at(table);
+    let way = flat(table, l, l.nodes, from, 1);
+    let begun = begin(way.headed, words, 0);
+    let Begun::At { at: start } = begun else {
+        return Ahead {
+            at: 0,
+            used: 0,
+            child: from,
+            left: 1,
+        };
+    };
+    put_ints(table, l, way.from, way.width, words, start, out)
+}
+
+// A list of whole entries: if it is a few integers, without the cycle.
+fn write_few(table: &[u8], l: Layout, words: &[u64], pool: &[u8], out: &mut [u8]) -> WriteAnswer
+    requires { ⌜ checkOf (now table) ≡ Good l ⌝ }
+    requires { ⌜ length (now words) % 2 ≡ 0 ⌝ }
+    ensures { λ r. ⌜ Writes (formed (length (now (out .entry))) (writeShape (shapeOf (now (table .entry)) l) (now (pool .entry)) (entries (now (words .entry)) 0))) (now (out .entry)) r (now (out .exit)) ⌝ }
+{
+    let mut small: [u8; SHORT] = [0; SHORT];
+    let front = put_front(table, l, words, &mut small);
+    if front.left == 0 {
+        if words.len() / 2 <= front.at {
+            let count = front.used;
+            if count <= SHORT {
+                if count <= out.len() {
+                    put_bytes(&small[..count], out, 0);
+                    return WriteAnswer::Done { place: count };
+                }
+            }
+        }
+    }
+    write_entries(table, l, words, pool, out)
+}
+
 // Writes a value list by a table: how many bytes, which stand in front in the output, or why not.
 pub fn write(table: &[u8], words: &[u64], pool: &[u8], out: &mut [u8]) -> WriteAnswer
     ensures { λ r. ⌜ Writes (writes (now (table .entry)) (now (words .entry)) (now (pool .entry)) (length (now (out .entry)))) (now (out .entry)) r (now (out .exit)) ⌝ }
@@ -863,6 +998,9 @@ pub fn write(table: &[u8], words: &[u64], pool: &[u8], out: &mut [u8]) -> WriteA
         Checked::Bad { why, place } => WriteAnswer::Refused { why, place },
         Checked::Good { layout } => {
             if words.len() % 2 == 0 {
+                if words.len() <= FEW {
+                    return write_few(table, layout, words, pool, out);
+                }
                 return write_entries(table, layout, words, pool, out);
             }
             WriteAnswer::Refused {

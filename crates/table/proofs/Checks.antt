@@ -13,78 +13,47 @@ use Rattle.wire.specs.declared.Layout.{Layout}
 use Rattle.wire.specs.declared.Checked.the-variants.{Good, Bad}
 use Rattle.wire.specs.Tests.{pick, given, both}
 use Rattle.wire.specs.Shape.{Kind, plain, pooled, option, sequence, map, struct, enum}
-use Rattle.wire.specs.Table.{u16At, layoutAt, goodTrailer, isKind, kindOf, Node, nodeAt, recordOf, firstChild, childCount, below, goodPlaces, goodKind, goodNode, checkFrom, checkAt, check}
+use Rattle.wire.specs.Table.{u16At, layoutAt, goodTrailer, kinds, isKind, kindOf, Node, nodeAt, recordOf, firstChild, childCount, below, goodPlaces, goodKind, goodNode, checkFrom, checkAt, check}
 use Rattle.laws.specs.Tables.{nodeKind, nodeFirst, nodeCount}
-use Rattle.laws.proofs.Splits.{both-right}
+use Rattle.laws.proofs.Splits.{by-eq}
 use Rattle.laws.proofs.EachKind.{low-kinds}
 use Rattle.table.specs.Parts.{Inside, badAt}
 
 -- ---- a node
 
-node-is : (s : List ℕ) (l : Layout) (i : ℕ) (r : Node)
-    → goodNode s l i r ≡ both (eqb (r .zeroed) 0) (both (both (isKind (r .number)) (goodPlaces l (nodeKind r) (r .a) (r .b))) (below s i (nodeFirst l i r) (nodeCount r)))
-unfolding goodNode goodKind both given
-node-is s l i r = go (isKind (r .number)) (eqb (r .zeroed) 0) (goodPlaces l (nodeKind r) (r .a) (r .b)) (below s i (nodeFirst l i r) (nodeCount r))
-  where
-    go : (x y z t : Bool) → both (both x y) (given z (λ _. t) false) ≡ both y (both (both x z) t)
-    go true true true t = refl
-    go true true false t = refl
-    go true false z t = refl
-    go false true z t = refl
-    go false false z t = refl
+-- two bytes as one number: the first alone, or more than a byte holds
+low-pair : (s : List ℕ) (at : ℕ) → u16At s at < 256 → (getD s (at + 1) 0 ≡ 0) × (u16At s at ≡ getD s at 0)
+unfolding u16At
+low-pair s at h = (omega arith, omega arith)
 
-and-true : (t : Bool) → t ≡ both t true
-unfolding both
-and-true true = refl
-and-true false = refl
+high-pair : (s : List ℕ) (at : ℕ) → 256 ≤ u16At s at → getD s (at + 1) 0 ≡ 0 → 32 ≤ getD s at 0
+unfolding u16At
+high-pair s at h e = omega (arith, e)
 
--- a record that is read: the kind's number, the zero byte, and then a and b
-module _ (s : List ℕ) (l : Layout) (i : ℕ) where
-  abbrev number : ℕ
-  number = getD s (recordOf l i) 0
+-- a record that is read: the kind's number and the zero byte as one number, and then a and b
+module _ (s : List ℕ) (l : Layout) (i at head : ℕ) (here : at ≡ recordOf l i) (rh : head ≡ u16At s at) where
+  pub node-odd : 256 ≤ head → false ≡ goodNode s l i (nodeAt s (recordOf l i))
+  unfolding goodNode nodeAt isKind kinds both
+  node-odd h =
+      rw (← here)
+      (by-eq (getD s (at + 1) 0) 0
+      (λ e. rw (le-ltb (getD s at 0) 32 (high-pair s at (rw (← rh) h) e)))
+      (λ e. rw (ne-eqb (getD s (at + 1) 0) 0 e) (go (isKind (getD s at 0)) _)))
+    where
+      go : (x y : Bool) → false ≡ both (both x false) y
+      go true y = refl
+      go false y = refl
 
-  abbrev zeroed : ℕ
-  zeroed = getD s (recordOf l i + 1) 0
-
-  pub node-zeroed : (zeroed ≡ 0 → ⊥) → false ≡ goodNode s l i (nodeAt s (recordOf l i))
-  unfolding nodeAt both
-  node-zeroed h = rw (node-is s l i, ne-eqb zeroed 0 h)
-
-  module _ (a b : ℕ) (ra : a ≡ u16At s (recordOf l i + 2)) (rb : b ≡ u16At s (recordOf l i + 4)) where
-    abbrev places : Bool
-    places = both (isKind number) (goodPlaces l (kindOf number) a b)
-
-    node-read : goodNode s l i (nodeAt s (recordOf l i)) ≡ both (eqb zeroed 0) (both places (below s i (firstChild l i (kindOf number) a) (childCount (kindOf number) b)))
-    unfolding nodeAt
-    node-read = rw (ra, rb) (node-is s l i _)
-
-    pub node-places : zeroed ≡ 0 → false ≡ places → false ≡ goodNode s l i (nodeAt s (recordOf l i))
-    unfolding both
-    node-places h e = rw (node-read, eq-eqb zeroed 0 h, ← e)
-
-    -- a kind without children wants no more
-    pub node-alone : zeroed ≡ 0 → number < 15 → places ≡ goodNode s l i (nodeAt s (recordOf l i))
-    unfolding both below childCount
-    node-alone h low = rw (node-read, eq-eqb zeroed 0 h, low-kinds (λ q. childCount q b ≡ 0) (λ x. refl) (λ x. refl) number low) (and-true places)
-
-    pub node-below : zeroed ≡ 0 → true ≡ places
-        → below s i (firstChild l i (kindOf number) a) (childCount (kindOf number) b) ≡ goodNode s l i (nodeAt s (recordOf l i))
-    unfolding both
-    node-below h e = rw (node-read, eq-eqb zeroed 0 h, ← e)
-
--- the children's numbers of a kind stand in the table
-pub children-inside : (s : List ℕ) (l : Layout) (i k a b : ℕ) → Inside s l → i < l .nodes → true ≡ both (isKind k) (goodPlaces l (kindOf k) a b)
-    → firstChild l i (kindOf k) a + 2 * childCount (kindOf k) b ≤ length s
-children-inside s l i k a b w h e = go (kindOf k) (both-right _ _ (sym e))
-  where
-    go : (q : Kind) → goodPlaces l q a b ≡ true → firstChild l i q a + 2 * childCount q b ≤ length s
-    go (plain x) p = unfold firstChild childCount recordOf in omega arith
-    go (pooled x) p = unfold firstChild childCount recordOf in omega arith
-    go option p = unfold firstChild childCount recordOf in omega arith
-    go sequence p = unfold firstChild childCount recordOf in omega arith
-    go map p = unfold firstChild childCount recordOf in omega arith
-    go struct p = unfold firstChild childCount goodPlaces in omega (arith, leb-true (a + b) (l .places) (both-right _ _ p))
-    go enum p = unfold firstChild childCount goodPlaces in omega (arith, leb-true (a + b) (l .places) (both-right _ _ p))
+  pub node-even : (a b : ℕ) → a ≡ u16At s (at + 2) → b ≡ u16At s (at + 4) → head < 256
+      → both (isKind head) (goodKind s l i (kindOf head) a b) ≡ goodNode s l i (nodeAt s (recordOf l i))
+  unfolding goodNode nodeAt both
+  node-even a b ra rb h =
+      let p = low-pair s at (rw (← rh) h) in
+      rw (← here, ra, rb, rh, p .1, p .0) (go (isKind (getD s at 0)) _)
+    where
+      go : (x y : Bool) → both x y ≡ both (both x true) y
+      go true y = refl
+      go false y = refl
 
 -- ---- the numbers of children
 

@@ -2,62 +2,103 @@
 -- Assumes nothing.
 use mathlib.Core.Path.{_≡_, refl}
 use mathlib.Core.Bool.{Bool, true, false}
+use mathlib.Core.List.{List}
 use Prim.Native.Nat.{ℕ, _+_, _*_, _<_}
 use native.Mathlib.Omega.{arith}
-use lib.Dec.{eqb, leb}
+use lib.Dec.{eqb, ltb, leb}
 use borrow.Author.Tests.{eq-eqb, ne-eqb, le-leb, lt-ltb, le-ltb, ltb-true}
 use Rattle.wire.specs.declared.Layout.{Layout}
-use Rattle.wire.specs.Tests.{pick, both}
+use Rattle.wire.specs.Tests.{pick, given, both}
+use Rattle.wire.specs.Shape.{Leaf, Content, Kind, plain, pooled}
 use Rattle.wire.specs.Walk.{following, isKnown}
-use Rattle.wire.specs.Table.{kinds, isKind, kindOf, recordOf, firstChild, childCount, goodPlaces}
+use Rattle.wire.specs.Table.{u16At, kinds, isKind, kindOf, recordOf, firstChild, childCount, below, goodPlaces, goodKind}
 use Rattle.laws.proofs.Splits.{by-lt, by-eq}
 use Rattle.laws.proofs.EachKind.{end, _&_, in-kinds, low-kinds, high-kinds}
 use Rattle.table.specs.declared.Stretch.{Stretch}
-use Rattle.table.specs.Parts.{followed}
+use Rattle.table.specs.Parts.{listed, followed}
 
--- ---- a and b
+-- ---- a record
 
 -- a struct without fields
-pub no-fields : (a b places : ℕ) → b ≡ 0 → eqb a 0 ≡ both (pick (eqb b 0) (eqb a 0) true) (leb (a + b) places)
-unfolding pick both
-no-fields a b places e =
-    by-eq a 0 (λ f. rw (eq-eqb b 0 e, eq-eqb a 0 f, le-leb (a + b) places (omega arith))) (λ f. rw (eq-eqb b 0 e, ne-eqb a 0 f))
+pub no-fields : (s : List ℕ) (l : Layout) (i a b : ℕ) → b ≡ 0 → eqb a 0 ≡ both (pick (eqb b 0) (eqb a 0) true) (listed s l i a b)
+unfolding pick both listed below
+no-fields s l i a b e =
+    by-eq a 0 (λ f. rw (e, f, le-leb 0 (l .places) (omega arith))) (λ f. rw (eq-eqb b 0 e, ne-eqb a 0 f))
 
-module _ (l : Layout) (k a b : ℕ) where
-  abbrev Places : Bool → Type 0
-  Places t = t ≡ both (isKind k) (goodPlaces l (kindOf k) a b)
+given-true : (t : Bool) → t ≡ given t (λ _. true) false
+unfolding given
+given-true true = refl
+given-true false = refl
 
-  kind : {t : Bool} → k < 32 → t ≡ goodPlaces l (kindOf k) a b → Places t
+given-both : (x y z : Bool) → both x (both y z) ≡ given (both x y) (λ _. z) false
+unfolding given both
+given-both true true z = refl
+given-both true false z = refl
+given-both false y z = refl
+
+module _ (s : List ℕ) (l : Layout) (i k a b : ℕ) where
+  abbrev Kinded : Bool → Type 0
+  Kinded t = t ≡ both (isKind k) (goodKind s l i (kindOf k) a b)
+
+  kind : {t : Bool} → k < 32 → t ≡ goodKind s l i (kindOf k) a b → Kinded t
   unfolding isKind kinds both
   kind h e = rw (lt-ltb k 32 h) e
 
-  pub no-kind : 31 < k → Places false
+  pub no-kind : 31 < k → Kinded false
   unfolding isKind kinds both
   no-kind h = rw (le-ltb k 32 h)
 
-  pub places-low : k < 15 → Places (both (eqb a 0) (eqb b 0))
-  unfolding goodPlaces
-  places-low h = kind (omega arith) (low-kinds (λ q. both (eqb a 0) (eqb b 0) ≡ goodPlaces l q a b) (λ x. refl) (λ c. refl) k h)
+  abbrev Alone : Kind → Type 0
+  Alone q = both (eqb a 0) (eqb b 0) ≡ goodKind s l i q a b
 
-  pub places-high : 19 < k → k < 32 → Places (both (eqb a 0) (eqb b 0))
-  unfolding goodPlaces
-  places-high g h = kind h (high-kinds (λ q. both (eqb a 0) (eqb b 0) ≡ goodPlaces l q a b) (λ x. refl) (λ c. refl) k g)
+  alone-plain : (x : Leaf) → Alone (plain x)
+  unfolding goodKind goodPlaces childCount below
+  alone-plain x = given-true _
 
-  pub places-one : 14 < k → k < 17 → Places (eqb b 0)
-  unfolding goodPlaces kinds
-  places-one g h = kind (omega arith) (in-kinds (λ q. eqb b 0 ≡ goodPlaces l q a b) 15 2 refl (refl & refl & end) k g (omega arith))
+  alone-pooled : (x : Content) → Alone (pooled x)
+  unfolding goodKind goodPlaces childCount below
+  alone-pooled x = given-true _
 
-  pub places-map : k ≡ 17 → Places true
-  unfolding goodPlaces kindOf kinds
-  places-map e = kind (omega arith) (rw e)
+  pub kinded-low : k < 15 → Kinded (both (eqb a 0) (eqb b 0))
+  kinded-low h = kind (omega arith) (low-kinds Alone alone-plain alone-pooled k h)
 
-  pub places-fields : k ≡ 18 → Places (both (pick (eqb b 0) (eqb a 0) true) (leb (a + b) (l .places)))
-  unfolding goodPlaces kindOf kinds
-  places-fields e = kind (omega arith) (rw e)
+  pub kinded-high : 19 < k → k < 32 → Kinded (both (eqb a 0) (eqb b 0))
+  kinded-high g h = kind h (high-kinds Alone alone-plain alone-pooled k g)
 
-  pub places-variants : k ≡ 19 → Places (both (leb 1 b) (leb (a + b) (l .places)))
-  unfolding goodPlaces kindOf kinds
-  places-variants e = kind (omega arith) (rw e)
+  pub kinded-fields : k ≡ 18 → Kinded (both (pick (eqb b 0) (eqb a 0) true) (listed s l i a b))
+  unfolding goodKind goodPlaces firstChild childCount listed kindOf kinds
+  kinded-fields e = kind (omega arith) (rw e (given-both _ _ _))
+
+  pub kinded-variants : k ≡ 19 → Kinded (both (leb 1 b) (listed s l i a b))
+  unfolding goodKind goodPlaces firstChild childCount listed kindOf kinds
+  kinded-variants e = kind (omega arith) (rw e (given-both _ _ _))
+
+  -- a and b are themselves the numbers of an option's, a sequence's and a map's children
+  module _ (ra : a ≡ u16At s (recordOf l i + 2)) (rb : b ≡ u16At s (recordOf l i + 4)) where
+    one : both (eqb b 0) (ltb a i) ≡ given (eqb b 0) (λ _. below s i (recordOf l i + 2) 1) false
+    unfolding below given both
+    one = rw ra (go (eqb b 0) _)
+      where
+        go : (x y : Bool) → both x y ≡ given x (λ _. both y true) false
+        go true true = refl
+        go true false = refl
+        go false y = refl
+
+    pub kinded-one : 14 < k → k < 17 → Kinded (both (eqb b 0) (ltb a i))
+    unfolding goodKind goodPlaces firstChild childCount kinds
+    kinded-one g h =
+        kind (omega arith) (in-kinds (λ q. both (eqb b 0) (ltb a i) ≡ goodKind s l i q a b) 15 2 refl (one & one & end) k g (omega arith))
+
+    pub kinded-map : k ≡ 17 → Kinded (both (ltb a i) (ltb b i))
+    unfolding goodKind goodPlaces firstChild childCount below given both kindOf kinds
+    kinded-map e =
+        let next : recordOf l i + 4 ≡ recordOf l i + 2 + 2 = omega arith in
+        kind (omega arith) (rw (e, ra, rb, next) (go (ltb (u16At s (recordOf l i + 2)) i) (ltb (u16At s (recordOf l i + 2 + 2)) i)))
+      where
+        go : (x y : Bool) → both x y ≡ both x (both y true)
+        go true true = refl
+        go true false = refl
+        go false y = refl
 
 -- ---- the children
 

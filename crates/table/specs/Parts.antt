@@ -1,22 +1,27 @@
 -- The parts of a table as code goes through them: where they stand, and stretches of children's numbers.
 -- Assumes nothing.
+use mathlib.Core.Bool.{Bool}
 use mathlib.Core.List.{List}
 use Prim.Native.Nat.{ℕ, _+_, _*_, _≤_, _<_}
 use lib.ListN.{length}
-use lib.Dec.{ltb}
+use lib.Dec.{ltb, leb}
 use Rattle.wire.specs.declared.Refusal.the-variants.{Record}
 use Rattle.wire.specs.declared.Layout.{Layout}
 use Rattle.wire.specs.declared.Checked.{Checked}
 use Rattle.wire.specs.declared.Checked.the-variants.{Good, Bad}
-use Rattle.wire.specs.Tests.{pick}
+use Rattle.wire.specs.Tests.{pick, both}
 use Rattle.wire.specs.Walk.{Follow, each, only}
-use Rattle.wire.specs.Table.{u16At}
+use Rattle.wire.specs.Table.{u16At, below}
 use Rattle.table.specs.declared.Stretch.{Stretch}
 
 -- the records and the child list stand in the table
 pub record Inside (s : List ℕ) (l : Layout) : Type 0 where
   pub records : l .records + 6 * l .nodes ≤ l .children
   pub children : l .children + 2 * l .places ≤ length s
+
+-- b places from the a-th on are in the child list, and their numbers are below i
+unfoldable pub listed : List ℕ → Layout → (i a b : ℕ) → Bool
+listed s l i a b = both (leb (a + b) (l .places)) (below s i (l .children + 2 * a) b)
 
 -- the check of nodes of which i is the first bad one, or none is where i is no node
 unfoldable pub badAt : Layout → ℕ → Checked

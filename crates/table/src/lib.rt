@@ -6,13 +6,13 @@ ghost use mathlib.Core.Path.{_≡_};
 ghost use mathlib.Core.Bool.{true};
 ghost use Prim.Native.Nat.{_+_, _*_, _^_, _<_, _≤_};
 ghost use lib.ListN.{length};
-ghost use lib.Dec.{eqb, leb};
+ghost use lib.Dec.{eqb, ltb, leb};
 ghost use Rattle.wire.specs.Tests.{pick, both};
 ghost use Rattle.wire.specs.Walk.{following, isKnown};
-ghost use Rattle.wire.specs.Table.{u16At, layoutAt, goodNumbers, goodTrailer, isKind, kindOf, recordOf, nodeAt, firstChild, childCount, goodPlaces, goodNode, checkFrom};
+ghost use Rattle.wire.specs.Table.{u16At, layoutAt, goodNumbers, goodTrailer, isKind, kindOf, recordOf, nodeAt, firstChild, childCount, goodKind, goodNode, checkFrom};
 ghost use Rattle.wire.specs.Table.{below as allBelow, check as checkOf};
 ghost use Rattle.laws.specs.Tables.{nodeFirst, nodeCount, GoodTable};
-ghost use Rattle.table.specs.Parts.{Inside, badAt, followed};
+ghost use Rattle.table.specs.Parts.{Inside, listed, badAt, followed};
 
 // The trailer's bytes and a record's, the most nodes and bytes of child list, and the mark.
 const TRAILER: usize = 10;
@@ -55,12 +55,10 @@ fn good_numbers(c: usize, d: usize, n: usize, root: usize, end: usize) -> bool
     requires { ⌜ (c < 65536) × (n < 65536) ⌝ }
     ensures { λ r. ⌜ r ≡ goodNumbers 256 2048 c d n root end ⌝ }
 {
-    if n < 1 {
-        return false;
-    }
     if NODES < n {
         return false;
     }
+    // So there is a node.
     if n <= root {
         return false;
     }
@@ -122,68 +120,6 @@ fn both_zero(a: usize, b: usize) -> bool
     false
 }
 
-fn good_fields(places: usize, a: usize, b: usize) -> bool
-    requires { ⌜ (a < 65536) × (b < 65536) ⌝ }
-    ensures { λ r. ⌜ r ≡ both (pick (eqb b 0) (eqb a 0) true) (leb (a + b) places) ⌝ }
-{
-    if b == 0 {
-        return a == 0;
-    }
-    a + b <= places
-}
-
-fn good_variants(places: usize, a: usize, b: usize) -> bool
-    requires { ⌜ (a < 65536) × (b < 65536) ⌝ }
-    ensures { λ r. ⌜ r ≡ both (leb 1 b) (leb (a + b) places) ⌝ }
-{
-    if 1 <= b {
-        return a + b <= places;
-    }
-    false
-}
-
-// Whether a record's kind from 15 on, a and b are good, but for the numbers of its children.
-fn good_places(l: Layout, number: u8, a: usize, b: usize) -> bool
-    requires { ⌜ (15 ≤ number) × (a < 65536) × (b < 65536) ⌝ }
-    ensures { λ r. ⌜ r ≡ both (isKind number) (goodPlaces l (kindOf number) a b) ⌝ }
-{
-    match number {
-        15 | 16 => b == 0,
-        17 => true,
-        18 => good_fields(l.places, a, b),
-        19 => good_variants(l.places, a, b),
-        20..=25 => both_zero(a, b),
-        26..=31 => both_zero(a, b),
-        _ => false,
-    }
-}
-
-// Where the numbers of a node's children begin.
-fn children_from(l: Layout, i: usize, number: u8, a: usize) -> usize
-    requires { ⌜ (recordOf l i + 2 < 2 ^ 64) × (l .children + 2 * a < 2 ^ 64) ⌝ }
-    ensures { λ r. ⌜ r ≡ firstChild l i (kindOf number) a ⌝ }
-{
-    let own = l.records + RECORD * i + 2;
-    match number {
-        0..=17 => own,
-        18 | 19 => l.children + 2 * a,
-        _ => own,
-    }
-}
-
-// How many they are.
-fn children_of(number: u8, b: usize) -> usize
-    ensures { λ r. ⌜ r ≡ childCount (kindOf number) b ⌝ }
-{
-    match number {
-        0..=14 => 0,
-        15 | 16 => 1,
-        17 => 2,
-        18 | 19 => b,
-        _ => 0,
-    }
-}
-
 // Whether so many numbers from an offset on are below a node.
 fn all_below(table: &[u8], node: usize, from: usize, count: usize) -> bool
     requires { ⌜ from + 2 * count ≤ length (now table) ⌝ }
@@ -202,26 +138,93 @@ fn all_below(table: &[u8], node: usize, from: usize, count: usize) -> bool
     true
 }
 
-fn good_node(table: &[u8], l: Layout, i: usize) -> bool
-    requires { ⌜ Inside (now table) l ⌝ }
-    requires { ⌜ i < l .nodes ⌝ }
-    ensures { λ r. ⌜ r ≡ goodNode (now (table .entry)) l i (nodeAt (now (table .entry)) (recordOf l i)) ⌝ }
+// A record of an option or a sequence, whose child's number is a.
+fn one_below(node: usize, a: usize, b: usize) -> bool
+    ensures { λ r. ⌜ r ≡ both (eqb b 0) (ltb a node) ⌝ }
 {
-    let at = l.records + RECORD * i;
-    let number = table[at];
-    let zeroed = table[at + 1];
-    if zeroed != 0 {
+    if b == 0 {
+        return a < node;
+    }
+    false
+}
+
+// A map's, whose children's numbers are a and b.
+fn both_below(node: usize, a: usize, b: usize) -> bool
+    ensures { λ r. ⌜ r ≡ both (ltb a node) (ltb b node) ⌝ }
+{
+    if a < node {
+        return b < node;
+    }
+    false
+}
+
+// Whether b places from the a-th on are in the child list, with numbers below the node.
+fn good_list(table: &[u8], l: Layout, node: usize, a: usize, b: usize) -> bool
+    requires { ⌜ Inside (now table) l ⌝ }
+    requires { ⌜ (a < 65536) × (b < 65536) ⌝ }
+    ensures { λ r. ⌜ r ≡ listed (now (table .entry)) l node a b ⌝ }
+{
+    if l.places < a + b {
         return false;
     }
+    all_below(table, node, l.children + 2 * a, b)
+}
+
+fn good_fields(table: &[u8], l: Layout, node: usize, a: usize, b: usize) -> bool
+    requires { ⌜ Inside (now table) l ⌝ }
+    requires { ⌜ (a < 65536) × (b < 65536) ⌝ }
+    ensures { λ r. ⌜ r ≡ both (pick (eqb b 0) (eqb a 0) true) (listed (now (table .entry)) l node a b) ⌝ }
+{
+    if b == 0 {
+        return a == 0;
+    }
+    good_list(table, l, node, a, b)
+}
+
+fn good_variants(table: &[u8], l: Layout, node: usize, a: usize, b: usize) -> bool
+    requires { ⌜ Inside (now table) l ⌝ }
+    requires { ⌜ (a < 65536) × (b < 65536) ⌝ }
+    ensures { λ r. ⌜ r ≡ both (leb 1 b) (listed (now (table .entry)) l node a b) ⌝ }
+{
+    if 1 <= b {
+        return good_list(table, l, node, a, b);
+    }
+    false
+}
+
+// Whether the record of a kind from 15 on is good.
+fn good_inner(table: &[u8], l: Layout, node: usize, number: u8, a: usize, b: usize) -> bool
+    requires { ⌜ Inside (now table) l ⌝ }
+    requires { ⌜ 15 ≤ number ⌝ }
+    requires { ⌜ (a < 65536) × (b < 65536) ⌝ }
+    requires { ⌜ (a ≡ u16At (now table) (recordOf l node + 2)) × (b ≡ u16At (now table) (recordOf l node + 4)) ⌝ }
+    ensures { λ r. ⌜ r ≡ both (isKind number) (goodKind (now (table .entry)) l node (kindOf number) a b) ⌝ }
+{
+    match number {
+        15 | 16 => one_below(node, a, b),
+        17 => both_below(node, a, b),
+        18 => good_fields(table, l, node, a, b),
+        19 => good_variants(table, l, node, a, b),
+        20..=31 => both_zero(a, b),
+        _ => false,
+    }
+}
+
+// The node i, whose record stands at an offset. A kind below 15 and the zero byte behind it are one number below 15, and
+// most nodes are such leaves.
+fn good_node(table: &[u8], l: Layout, i: usize, at: usize) -> bool
+    requires { ⌜ Inside (now table) l ⌝ }
+    requires { ⌜ (i < l .nodes) × (at ≡ recordOf l i) ⌝ }
+    ensures { λ r. ⌜ r ≡ goodNode (now (table .entry)) l i (nodeAt (now (table .entry)) (recordOf l i)) ⌝ }
+{
+    let head = u16_at(table, at);
     let a = u16_at(table, at + 2);
     let b = u16_at(table, at + 4);
-    if number < 15 {
+    if head < 15 {
         return both_zero(a, b);
     }
-    if good_places(l, number, a, b) {
-        let count = children_of(number, b);
-        let from = children_from(l, i, number, a);
-        return all_below(table, i, from, count);
+    if head < 256 {
+        return good_inner(table, l, i, head as u8, a, b);
     }
     false
 }
@@ -234,11 +237,13 @@ fn first_bad(table: &[u8], l: Layout) -> usize
     ensures { λ r. ⌜ checkFrom (now (table .entry)) l 0 (l .nodes) ≡ badAt l r ⌝ }
 {
     let mut i = 0;
+    let mut at = l.records;
     while i < l.nodes {
-        if !good_node(table, l, i) {
+        if !good_node(table, l, i, at) {
             return i;
         }
         i = i + 1;
+        at = at + RECORD;
     }
     i
 }
@@ -279,6 +284,32 @@ pub fn check(table: &[u8]) -> Checked
 }
 
 // ---- a good table's nodes
+
+// Where the numbers of a node's children begin.
+fn children_from(l: Layout, i: usize, number: u8, a: usize) -> usize
+    requires { ⌜ (recordOf l i + 2 < 2 ^ 64) × (l .children + 2 * a < 2 ^ 64) ⌝ }
+    ensures { λ r. ⌜ r ≡ firstChild l i (kindOf number) a ⌝ }
+{
+    let own = l.records + RECORD * i + 2;
+    match number {
+        0..=17 => own,
+        18 | 19 => l.children + 2 * a,
+        _ => own,
+    }
+}
+
+// How many they are.
+fn children_of(number: u8, b: usize) -> usize
+    ensures { λ r. ⌜ r ≡ childCount (kindOf number) b ⌝ }
+{
+    match number {
+        0..=14 => 0,
+        15 | 16 => 1,
+        17 => 2,
+        18 | 19 => b,
+        _ => 0,
+    }
+}
 
 // The number of a node's kind.
 pub fn kind_at(table: &[u8], l: Layout, i: usize) -> u8

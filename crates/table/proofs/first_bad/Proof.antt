@@ -4,22 +4,23 @@ use mathlib.Core.Path.{_≡_, sym, _∙_}
 use Prim.Native.Nat.{_+_, _-_, _≤_}
 use native.Mathlib.Omega.{arith}
 use borrow.Author.Tests.{not-true, not-false}
-use Rattle.wire.specs.Table.{checkFrom}
+use Rattle.wire.specs.Table.{recordOf, checkFrom}
 use Rattle.table.proofs.Checks.{from-none, from-no, from-next, bad-node, no-bad}
 use Rattle.table.proofs.first_bad.Statement.{statement}
 use Rattle.table.proofs.first_bad.Tie as tie
 
 abbrev Inv-loop : tie.InvT-loop
-Inv-loop table l i₀ i = (checkFrom table l 0 (l .nodes) ≡ checkFrom table l i (l .nodes - i)) × (i ≤ l .nodes)
+Inv-loop table l i₀ at₀ i at = (checkFrom table l 0 (l .nodes) ≡ checkFrom table l i (l .nodes - i)) × (i ≤ l .nodes) × (at ≡ recordOf l i)
 
 abbrev μ-loop : tie.MeasureT-loop
-μ-loop table l i₀ i = l .nodes - i
+μ-loop table l i₀ at₀ i at = l .nodes - i
 
 loop-holds : tie.Need-loop-holds Inv-loop μ-loop
-loop-holds c = let l = c .before .args .l in let e : l .nodes - 0 ≡ l .nodes = omega arith in (rw e, omega arith)
+unfolding recordOf
+loop-holds c = let l = c .before .args .l in let e : l .nodes - 0 ≡ l .nodes = omega arith in (rw e, omega arith, omega arith)
 
 good-node-requires : tie.Need-good-node-requires Inv-loop μ-loop
-good-node-requires c κs = (c .before .before .before .before .pre, omega arith)
+good-node-requires c κs = (c .before .before .before .before .pre, (omega arith, c .before .before .loop .inv .2))
 
 returns : tie.Need-returns Inv-loop μ-loop
 returns c =
@@ -30,15 +31,20 @@ returns c =
 add-i : tie.Need-add-i Inv-loop μ-loop
 add-i c = omega arith
 
+add-at : tie.Need-add-at Inv-loop μ-loop
+unfolding recordOf
+add-at c = omega arith
+
 loop-less : tie.Need-loop-less Inv-loop μ-loop
 loop-less c = omega arith
 
 loop-again : tie.Need-loop-again Inv-loop μ-loop
+unfolding recordOf
 loop-again c =
     let b = c .before .before .before .before in
     let n = b .before .before .args .l .nodes in
     let e : n - (b .loop .i + 1) ≡ n - b .loop .i - 1 = omega arith in
-    (b .loop .inv .0 ∙ rw e (from-next _ _ _ _ (omega arith) (sym (not-false _ (c .if2 .left)) ∙ c .before .good-node .ensures)), omega arith)
+    (b .loop .inv .0 ∙ rw e (from-next _ _ _ _ (omega arith) (sym (not-false _ (c .if2 .left)) ∙ c .before .good-node .ensures)), omega arith, omega arith)
 
 returns-2 : tie.Need-returns-2 Inv-loop μ-loop
 returns-2 c = c .before .before .loop .inv .0 ∙ sym (from-none _ _ _ _ (omega arith)) ∙ no-bad _ _ (omega arith)
@@ -53,6 +59,7 @@ first-bad-spec =
     good-node-requires
     returns
     add-i
+    add-at
     loop-less
     loop-again
     returns-2)

@@ -18,22 +18,18 @@ returns-3 c = numbers-no _ _ _ _ _ _ _ (λ t. omega arith)
 returns-4 : tie.Need-returns-4
 returns-4 c = numbers-no _ _ _ _ _ _ _ (λ t. omega arith)
 
+mul-if5 : tie.Need-mul-if5
+mul-if5 c = search needs
+
+add-if5 : tie.Need-add-if5
+add-if5 c = search needs
+
 returns-5 : tie.Need-returns-5
 returns-5 c = numbers-no _ _ _ _ _ _ _ (λ t. omega arith)
 
-mul-if6 : tie.Need-mul-if6
-mul-if6 c = search needs
-
-add-if6 : tie.Need-add-if6
-add-if6 c = search needs
-
 returns-6 : tie.Need-returns-6
-returns-6 c = numbers-no _ _ _ _ _ _ _ (λ t. omega arith)
-
-returns-7 : tie.Need-returns-7
-returns-7 c = numbers-yes _ _ _ _ _ _ _ (omega arith)
+returns-6 c = numbers-yes _ _ _ _ _ _ _ (omega arith)
 
 pub good-numbers-spec : {M : Type 1} → statement M
 good-numbers-spec =
-    tie.close
-    (tie.spec returns returns-2 returns-3 returns-4 returns-5 mul-if6 add-if6 returns-6 returns-7)
+    tie.close (tie.spec returns returns-2 returns-3 returns-4 mul-if5 add-if5 returns-5 returns-6)

@@ -1,5 +1,5 @@
 //! A whole 250-byte frame in one chunk: a feed beside a plain copy and decode in Rust, in the faster of two forms.
-use crate::timing::best;
+use crate::timing::{race, side};
 use reystavem::{Accumulator, Fed, ROOM};
 use std::hint::black_box;
 
@@ -74,16 +74,13 @@ pub fn report() {
         let mut state = Accumulator::new();
         let (Fed::Frame { message: got, len }, []) = state.feed(&frame) else { panic!("{name}") };
         assert_eq!(got[..len], message, "{name}");
-        let ours = best(|| state.feed(black_box(&frame)));
-        let (mut array, mut out) = ([0; ROOM], [0; ROOM]);
-        let bytes = best(|| {
-            out = [0; ROOM];
-            by_bytes(&mut array, black_box(&frame), &mut out)
-        });
-        let groups = best(|| {
-            out = [0; ROOM];
-            by_groups(&mut array, black_box(&frame), &mut out)
-        });
+        let mut array = [0; ROOM];
+        let mut other = array;
+        let [ours, bytes, groups] = race([
+            side(|| state.feed(black_box(&frame))),
+            side(|| by_bytes(&mut array, black_box(&frame), black_box(&mut [0; ROOM]))),
+            side(|| by_groups(&mut other, black_box(&frame), black_box(&mut [0; ROOM]))),
+        ]);
         let plain = bytes.min(groups);
         println!("| {name} | {ours:.0} | {plain:.0} | {:.2} |", ours / plain);
     }

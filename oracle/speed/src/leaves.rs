@@ -1,5 +1,5 @@
 //! Varints by width and length, and texts.
-use crate::timing::best;
+use crate::timing::{race, side};
 use serde::de::DeserializeOwned;
 use std::hint::black_box;
 
@@ -47,8 +47,8 @@ fn width(name: &str, most: usize, last: u8, ours: Loop, theirs: fn(&[u8]) -> u64
     for len in 1..=most {
         let message = varints(len, most, last);
         assert_eq!(call(ours, &message), theirs(&message), "{name}, {len} bytes");
-        let mine = best(|| call(ours, black_box(&message))) / ITEMS as f64;
-        let other = best(|| theirs(black_box(&message))) / ITEMS as f64;
+        let [mine, other] = race([side(|| call(ours, black_box(&message))), side(|| theirs(black_box(&message)))])
+            .map(|all| all / ITEMS as f64);
         println!(
             "| {name}, {len} byte{} | {mine:.2} | {other:.2} | {:.2} |",
             if len == 1 { "" } else { "s" },
@@ -59,8 +59,8 @@ fn width(name: &str, most: usize, last: u8, ours: Loop, theirs: fn(&[u8]) -> u64
 
 fn text(name: &str, text: &[u8]) {
     assert_eq!(call(measure_text, text) == 1, std::str::from_utf8(text).is_ok(), "{name}");
-    let mine = best(|| call(measure_text, black_box(text)));
-    let other = best(|| std::str::from_utf8(black_box(text)).is_ok());
+    let [mine, other] =
+        race([side(|| call(measure_text, black_box(text))), side(|| std::str::from_utf8(black_box(text)).is_ok())]);
     let rate = |ns: f64| text.len() as f64 / ns * 1000.0;
     println!("| {name} | {:.0} | {:.0} | {:.2} |", rate(mine), rate(other), mine / other);
 }

@@ -1,6 +1,6 @@
 //! Whole messages: ours with its table check each time; the crate under a visitor or a `Serialize` that
 //! follows a table parsed beforehand; and the crate with types compiled in.
-use crate::timing::best;
+use crate::timing::{race, side};
 use oracle_driver::table::{Node, Table, SEQ, STR, STRUCT, U32};
 use oracle_driver::{read, write, Entry};
 use serde::de::DeserializeOwned;
@@ -28,7 +28,7 @@ struct Sample<'a> {
     typed_write: &'a dyn Fn(&mut [u8]) -> usize,
 }
 
-fn ratio_row(name: &str, ours: f64, driven: f64, typed: f64) {
+fn ratio_row(name: &str, [ours, driven, typed]: [f64; 3]) {
     println!("| {name} | {ours:.0} | {driven:.0} | {typed:.0} | {:.2} | {:.2} |", ours / driven, ours / typed);
 }
 
@@ -44,28 +44,31 @@ impl Sample<'_> {
         let mut store = vec![0u64; 2 * entries.len()];
         let read = reystavem::read(&file, &self.message, &mut store).expect("a good message");
         assert_eq!((read.count, &store[..]), (entries.len(), entries.as_flattened()), "{}", self.name);
-        let ours = best(|| reystavem::read(black_box(&file), black_box(&self.message), &mut store).is_ok());
         let mut kept = Vec::with_capacity(entries.len());
-        let driven = best(|| {
-            kept.clear();
-            let got = read::read_good(&self.table, black_box(&self.message), entries.len(), std::mem::take(&mut kept));
-            kept = got.entries;
-        });
-        let typed = best(|| (self.typed_read)(black_box(&self.message)));
-        ratio_row(self.name, ours, driven, typed);
+        let times = race([
+            side(|| reystavem::read(black_box(&file), black_box(&self.message), &mut store).is_ok()),
+            side(|| {
+                kept.clear();
+                let room = std::mem::take(&mut kept);
+                kept = read::read_good(&self.table, black_box(&self.message), entries.len(), room).entries;
+            }),
+            side(|| (self.typed_read)(black_box(&self.message))),
+        ]);
+        ratio_row(self.name, times);
     }
 
     /// Both with a store that is allocated for the call.
     fn reading_cold(&self) {
         let (file, count) = (self.table.file(), self.entries().len());
-        let ours = best(|| {
-            let mut store = vec![0u64; 2 * count];
-            reystavem::read(black_box(&file), black_box(&self.message), &mut store).is_ok()
-        });
-        let driven =
-            best(|| read::read_good(&self.table, black_box(&self.message), count, Vec::with_capacity(count)).no);
-        let typed = best(|| (self.typed_read)(black_box(&self.message)));
-        ratio_row(&format!("{}, store allocated", self.name), ours, driven, typed);
+        let times = race([
+            side(|| {
+                let mut store = vec![0u64; 2 * count];
+                reystavem::read(black_box(&file), black_box(&self.message), &mut store).is_ok()
+            }),
+            side(|| read::read_good(&self.table, black_box(&self.message), count, Vec::with_capacity(count)).no),
+            side(|| (self.typed_read)(black_box(&self.message))),
+        ]);
+        ratio_row(&format!("{}, store allocated", self.name), times);
     }
 
     fn writing(&self) {
@@ -74,10 +77,13 @@ impl Sample<'_> {
         let mut out = vec![0u8; self.message.len()];
         assert_eq!(reystavem::write(&file, words, pool, &mut out), Ok(out.len()), "{}", self.name);
         assert_eq!(out, self.message, "{}", self.name);
-        let ours = best(|| reystavem::write(black_box(&file), black_box(words), pool, &mut out).is_ok());
-        let driven = best(|| write::to_slice(&self.table, black_box(&entries), pool, &mut out));
-        let typed = best(|| (self.typed_write)(&mut out));
-        ratio_row(self.name, ours, driven, typed);
+        let (mut driven_out, mut typed_out) = (out.clone(), out.clone());
+        let times = race([
+            side(|| reystavem::write(black_box(&file), black_box(words), pool, &mut out).is_ok()),
+            side(|| write::to_slice(&self.table, black_box(&entries), pool, &mut driven_out)),
+            side(|| (self.typed_write)(&mut typed_out)),
+        ]);
+        ratio_row(self.name, times);
     }
 }
 

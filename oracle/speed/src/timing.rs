@@ -1,20 +1,32 @@
-//! The best of many runs.
+//! The best of many runs, in which the sides take turns.
 use std::hint::black_box;
 use std::time::{Duration, Instant};
 
-/// Nanoseconds of one call: the best of many rounds of about a millisecond each.
-pub fn best<T>(mut call: impl FnMut() -> T) -> f64 {
-    let start = Instant::now();
-    black_box(call());
-    let once = start.elapsed().max(Duration::from_nanos(20));
-    let calls = (1_000_000 / once.as_nanos()).clamp(1, 100_000) as u32;
-    let mut best = f64::MAX;
-    for _ in 0..200 {
+/// What is timed: makes its call so often, and says how long that took.
+pub type Side<'a> = Box<dyn FnMut(u32) -> Duration + 'a>;
+
+pub fn side<'a, T>(mut call: impl FnMut() -> T + 'a) -> Side<'a> {
+    Box::new(move |calls| {
         let start = Instant::now();
         for _ in 0..calls {
             black_box(call());
         }
-        best = best.min(start.elapsed().as_nanos() as f64 / f64::from(calls));
+        start.elapsed()
+    })
+}
+
+/// Nanoseconds of one call of each side: the best of many rounds of about a millisecond each. In a round each side has
+/// its turn, so that what else the machine does falls on all of them.
+pub fn race<const N: usize>(mut sides: [Side; N]) -> [f64; N] {
+    let calls = sides.each_mut().map(|side| {
+        let once = side(1).max(Duration::from_nanos(20));
+        (1_000_000 / once.as_nanos()).clamp(1, 100_000) as u32
+    });
+    let mut best = [f64::MAX; N];
+    for _ in 0..200 {
+        for (i, side) in sides.iter_mut().enumerate() {
+            best[i] = best[i].min(side(calls[i]).as_nanos() as f64 / f64::from(calls[i]));
+        }
     }
     best
 }

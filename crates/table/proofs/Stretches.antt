@@ -1,9 +1,9 @@
 -- Stretches of children's numbers: those of a good table's nodes fall, and a walk over what follows an item goes through a stretch so often.
 -- Assumes nothing.
-use mathlib.Core.Path.{_≡_, refl, ap, _∙_}
+use mathlib.Core.Path.{_≡_, refl, ap, fun-ext, _∙_}
 use mathlib.Core.Bool.{true}
 use mathlib.Core.List.{List}
-use Prim.Native.Nat.{ℕ, zero, suc, _+_, _-_, _*_, _<_}
+use Prim.Native.Nat.{ℕ, zero, suc, _+_, _-_, _*_, _<_, _≤_}
 use native.Mathlib.Nat.{add-zero}
 use native.Mathlib.Omega.{arith}
 use lib.ListN.{length}
@@ -11,15 +11,16 @@ use borrow.Author.Tests.{ltb-true}
 use Rattle.wire.specs.declared.Layout.{Layout}
 use Rattle.wire.specs.declared.Checked.{Checked}
 use Rattle.wire.specs.declared.Checked.the-variants.{Good, Bad}
-use Rattle.wire.specs.Shape.{Shape}
-use Rattle.wire.specs.Walk.{Follow, each, only, isKnown, Walk, Step, times, along, walks}
-use Rattle.wire.specs.Table.{u16At, layoutAt, nodeAt, recordOf, shapesAt, checkFrom, checkAt, check}
+use Rattle.wire.specs.Shape.{Kind, struct, Shape}
+use Rattle.wire.specs.Walk.{Follow, each, only, following, isKnown, Walk, Step, all, times, along, walk, walks}
+use Rattle.wire.specs.Table.{u16At, layoutAt, kinds, kindOf, Node, nodeAt, recordOf, firstChild, childCount, shapesAt, checkFrom, checkAt, check}
 use Rattle.laws.specs.Steps.{row}
-use Rattle.laws.specs.Tables.{nodeFirst, nodeCount, GoodTable}
+use Rattle.laws.specs.Tables.{nodeFirst, nodeCount, nodeShape, GoodTable}
 use Rattle.laws.proofs.Splits.{of-given}
 use Rattle.laws.proofs.Tables.{next-place, good-table}
-use Rattle.laws.proofs.Children.{only-once}
-use Rattle.table.specs.Parts.{followed, Falls}
+use Rattle.laws.proofs.Children.{only-once, walk-node}
+use Rattle.table.specs.Parts.{followed, Falls, fieldsOf, Flat, bare, alone, under}
+use Rattle.table.specs.declared.Way.{Way}
 
 -- ---- numbers that fall
 
@@ -51,6 +52,41 @@ pub along-followed : (w : Walk) → ((g : Step w) (x : w .From) → w .then g (w
 unfolding along followed isKnown
 along-followed w then-nothing f s (each c) from n k x = refl
 along-followed w then-nothing f s (only v) from n k x = only-once w f s then-nothing from n v (ltb-true v n k) x
+
+-- ---- a stretch that is one struct alone
+
+pub fields-are : (l : Layout) (i a b : ℕ) (r : Node) → r .number ≡ 18 → a ≡ r .a → b ≡ r .b → record { headed = true; from = l .children + 2 * a; width = b } ≡ fieldsOf l i r
+unfolding fieldsOf firstChild childCount kindOf kinds
+fields-are l i a b r e ea eb = rw (ea, eb, e)
+
+module _ (w : Walk) (then-nothing : (f : Step w) (x : w .From) → w .then f (w .nothing) x ≡ f x) where
+  one-node : (f : ℕ → Shape) (s : List ℕ) (from : ℕ) (x : w .From) → row w (shapesAt f s from 1) x ≡ walk w (f (u16At s from)) x
+  unfolding all walk shapesAt
+  one-node f s from x = then-nothing _ x
+
+  -- a struct is its fields under its entry
+  struct-item : (k : Kind) → k ≡ struct → (m : ℕ) (fs : List (Step w)) (x : w .From)
+      → w .item k m (λ a. along w (following k a) fs) x ≡ under w true m (all w fs) x
+  unfolding under following along times
+  struct-item k e m fs x = rw e (ap (λ f. w .item struct m (λ a. f) x) (fun-ext (then-nothing (all w fs))))
+
+module _ {s : List ℕ} {l : Layout} {i from n : ℕ} {way : Way} (g : GoodTable s l) (h : i ≤ l .nodes) where
+  pub flat-falls : Flat s l i from n way → Falls s (way .from) (way .width) i
+  unfolding fieldsOf
+  flat-falls (bare f e) = rw e f
+  flat-falls (alone {c} one is low k e) =
+      let f = node-falls {i = c} g (omega arith) in
+      rw e (record { inside = f .inside; below = λ j b. let e = f .below j b in omega arith })
+
+  -- a walk over the numbers is one over the way
+  pub flat-same : (w : Walk) → ((f : Step w) (x : w .From) → w .then f (w .nothing) x ≡ f x) → Flat s l i from n way → (x : w .From)
+      → row w (shapesAt (nodeShape s l) s from n) x ≡ under w (way .headed) (way .width) (row w (shapesAt (nodeShape s l) s (way .from) (way .width))) x
+  unfolding fieldsOf
+  flat-same w then-nothing (bare f e) x = unfold under in rw e
+  flat-same w then-nothing (alone {c} one is low k e) x =
+      rw (e, one)
+      (one-node w then-nothing (nodeShape s l) s from x
+      ∙ (rw (← is) (walk-node w (g .node-good c (omega arith)) x ∙ struct-item w then-nothing _ k _ _ x)))
 
 -- ---- the root, whose number stands in the trailer
 

@@ -1,6 +1,7 @@
 -- The parts of a table as code goes through them: where they stand, and stretches of children's numbers.
 -- Assumes nothing.
-use mathlib.Core.Bool.{Bool}
+use mathlib.Core.Path.{_≡_}
+use mathlib.Core.Bool.{Bool, true, false}
 use mathlib.Core.List.{List}
 use Prim.Native.Nat.{ℕ, _+_, _*_, _≤_, _<_}
 use lib.ListN.{length}
@@ -10,9 +11,12 @@ use Rattle.wire.specs.declared.Layout.{Layout}
 use Rattle.wire.specs.declared.Checked.{Checked}
 use Rattle.wire.specs.declared.Checked.the-variants.{Good, Bad}
 use Rattle.wire.specs.Tests.{pick, both}
-use Rattle.wire.specs.Walk.{Follow, each, only}
-use Rattle.wire.specs.Table.{u16At, below}
+use Rattle.wire.specs.Shape.{struct}
+use Rattle.wire.specs.Walk.{Follow, each, only, Walk, Step}
+use Rattle.wire.specs.Table.{u16At, Node, nodeAt, recordOf, below}
+use Rattle.laws.specs.Tables.{nodeKind, nodeFirst, nodeCount}
 use Rattle.table.specs.declared.Stretch.{Stretch}
+use Rattle.table.specs.declared.Way.{Way}
 
 -- the records and the child list stand in the table
 pub record Inside (s : List ℕ) (l : Layout) : Type 0 where
@@ -36,3 +40,19 @@ followed (only v) from n = record { rounds = 1; from = from + 2 * v; width = 1 }
 pub record Falls (s : List ℕ) (from n i : ℕ) : Type 0 where
   pub inside : from + 2 * n ≤ length s
   pub below : (c : ℕ) → c < n → u16At s (from + 2 * c) < i
+
+-- ---- a stretch that is one struct alone
+
+-- the way by the fields of the struct i
+unfoldable pub fieldsOf : Layout → ℕ → Node → Way
+fieldsOf l i r = record { headed = true; from = nodeFirst l i r; width = nodeCount r }
+
+-- the way of n numbers from an offset on, below i: as they stand, or by the fields of the one struct that they are
+pub data Flat (s : List ℕ) (l : Layout) (i from n : ℕ) (way : Way) : Type 0 where
+  bare : Falls s from n i → way ≡ record { headed = false; from = from; width = n } → Flat s l i from n way
+  alone : {c : ℕ} → n ≡ 1 → c ≡ u16At s from → c < i → nodeKind (nodeAt s (recordOf l c)) ≡ struct → way ≡ fieldsOf l c (nodeAt s (recordOf l c)) → Flat s l i from n way
+
+-- a step as it stands, or as that of a struct's n fields
+unfoldable pub under : (w : Walk) → Bool → ℕ → Step w → Step w
+under w true n f = w .item struct n (λ a. f)
+under w false n f = f

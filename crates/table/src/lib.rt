@@ -12,7 +12,7 @@ ghost use Rattle.wire.specs.Walk.{following, isKnown};
 ghost use Rattle.wire.specs.Table.{u16At, layoutAt, goodNumbers, goodTrailer, isKind, kindOf, recordOf, nodeAt, firstChild, childCount, goodKind, goodNode, checkFrom};
 ghost use Rattle.wire.specs.Table.{below as allBelow, check as checkOf};
 ghost use Rattle.laws.specs.Tables.{nodeFirst, nodeCount, GoodTable};
-ghost use Rattle.table.specs.Parts.{Inside, listed, badAt, followed};
+ghost use Rattle.table.specs.Parts.{Inside, listed, badAt, followed, Falls, fieldsOf, Flat};
 
 // The trailer's bytes and a record's, the most nodes and bytes of child list, and the mark.
 const TRAILER: usize = 10;
@@ -28,6 +28,13 @@ const MARK: usize = 0x5053;
 // What follows an item: the `width` numbers that stand at `from` in the table, `rounds` times over.
 pub struct Stretch {
     pub rounds: u64,
+    pub from: usize,
+    pub width: usize,
+}
+
+// A stretch as its rounds go, and whether the entry of a struct heads each of them.
+pub struct Way {
+    pub headed: bool,
     pub from: usize,
     pub width: usize,
 }
@@ -385,5 +392,43 @@ pub fn follow(number: u8, first: u64, from: usize, width: usize) -> Stretch
             from,
             width,
         },
+    }
+}
+
+// A struct's fields.
+fn fields(table: &[u8], l: Layout, i: usize) -> Way
+    requires { ⌜ GoodTable (now table) l ⌝ }
+    requires { ⌜ i < l .nodes ⌝ }
+    requires { ⌜ nodeAt (now table) (recordOf l i) .number ≡ 18 ⌝ }
+    ensures { λ r. ⌜ r ≡ fieldsOf l i (nodeAt (now (table .entry)) (recordOf l i)) ⌝ }
+{
+    let at = l.records + RECORD * i;
+    let a = u16_at(table, at + 2);
+    let b = u16_at(table, at + 4);
+    Way {
+        headed: true,
+        from: l.children + 2 * a,
+        width: b,
+    }
+}
+
+// A stretch as its rounds go: by the fields of a struct where it is that struct alone, so that no call is made for the struct.
+pub fn flat(table: &[u8], l: Layout, node: usize, from: usize, width: usize) -> Way
+    requires { ⌜ GoodTable (now table) l ⌝ }
+    requires { ⌜ node ≤ l .nodes ⌝ }
+    requires { ⌜ Falls (now table) from width node ⌝ }
+    ensures { λ r. ⌜ Flat (now (table .entry)) l node from width r ⌝ }
+{
+    if width == 1 {
+        let c = u16_at(table, from);
+        let number = kind_at(table, l, c);
+        if number == 18 {
+            return fields(table, l, c);
+        }
+    }
+    Way {
+        headed: false,
+        from,
+        width,
     }
 }

@@ -27,10 +27,11 @@ use Rattle.laws.proofs.Runs.{then-nothing, fit-reached}
 use Rattle.laws.proofs.Tables.{good-table}
 use Rattle.laws.proofs.Unique.{by-equation}
 use Rattle.table.proofs.Stretches.{root-number}
-use Rattle.reader.specs.declared.Way.{Way}
+use Rattle.table.specs.declared.Way.{Way}
+use Rattle.reader.proofs.Rounds.{Reading}
 use Rattle.reader.proofs.Turns.{flat-rounds}
 use Rattle.reader.specs.Lay.{laid, lay, Gives}
-use Rattle.reader.specs.Steps.{readRow, headed, readRounds, Flat}
+use Rattle.reader.specs.Steps.{readRow, headed, readRounds}
 use Rattle.reader.specs.Promise.{Reads, RestIsLeft, OneReading, OneRest}
 
 -- ---- the store
@@ -64,7 +65,7 @@ module _ (table message store : List ℕ) where
   unfolding reads readBy readAnswer storeWith words
   reads-bad h = rw h (record { answered = refl; stored = refl })
 
-  pub reads-good : {l : Layout} {way : Way} {a : ReadAnswer} {st : List ℕ} (at : ℕ) → check table ≡ Good l → at + 4 ≡ length table → Flat table l (l .nodes) at 1 way
+  pub reads-good : {l : Layout} {way : Way} {a : ReadAnswer} {st : List ℕ} (at : ℕ) → check table ≡ Good l → at + 4 ≡ length table → Reading table l (l .nodes) at 1 way
       → Gives (lay (readRounds table l 1 (way .headed) (way .from) (way .width) (front message)) 0 store) a st → Reads (reads table message store) store a st
   unfolding reads readBy readRounds headed readRow read
   reads-good {l} at h e f g =

@@ -1,61 +1,46 @@
 -- Rounds over one struct are rounds over its fields, each under the struct's entry; and how a round begins.
 -- Assumes nothing.
-use mathlib.Core.Path.{_≡_, refl, sym, ap, fun-ext, _∙_}
+use mathlib.Core.Path.{_≡_, refl, fun-ext, _∙_}
 use mathlib.Core.Bool.{Bool, true, false}
 use mathlib.Core.List.{List, [], _∷_}
-use Prim.Native.Nat.{ℕ, _+_, _≤_, _<_}
+use Prim.Native.Nat.{ℕ, _+_, _≤_}
 use native.Mathlib.Nat.{add-zero}
 use native.Mathlib.Omega.{arith}
 use Rattle.wire.specs.declared.Refusal.the-variants.{Room}
 use Rattle.wire.specs.declared.Layout.{Layout}
 use Rattle.wire.specs.declared.ReadAnswer.the-variants.{Refused}
-use Rattle.wire.specs.Shape.{Kind, struct}
-use Rattle.wire.specs.Walk.{following, all, times, along, walk}
-use Rattle.wire.specs.Table.{u16At, kinds, kindOf, nodeAt, recordOf, shapesAt}
+use Rattle.wire.specs.Shape.{struct}
 use Rattle.wire.specs.Values.{Entry}
 use Rattle.wire.specs.Reading.{Spot, Outcome, reached, refused, Run, head, behind, readOn, readThen, past, enter, readItem, reading}
 use Rattle.wire.specs.Answers.{words, wordsOf}
-use Rattle.laws.specs.Tables.{nodeFirst, nodeCount, nodeShape, GoodTable}
-use Rattle.laws.proofs.Children.{walk-node}
+use Rattle.laws.specs.Tables.{GoodTable}
 use Rattle.laws.proofs.Runs.{then-nothing}
-use Rattle.table.specs.Parts.{Falls}
-use Rattle.table.proofs.Stretches.{falls-first, node-falls}
+use Rattle.table.specs.declared.Way.{Way}
+use Rattle.table.specs.Parts.{Falls, Flat, under}
+use Rattle.table.proofs.Stretches.{flat-falls, flat-same}
 use Rattle.reader.specs.declared.Begun.{Begun}
 use Rattle.reader.specs.declared.Begun.the-variants.{At, Full}
 use Rattle.reader.specs.Lay.{Left, lay, Gives}
-use Rattle.reader.specs.Steps.{spot, readRow, headed, Flat, Begins, bare, put, full}
+use Rattle.reader.specs.Steps.{spot, readRow, headed, Begins, bare, put, full}
 use Rattle.reader.proofs.Laying.{lay-entry, lay-full, gives-refused}
 
 -- ---- a stretch of one struct
 
--- a struct is its fields under its entry
-struct-item : (k : Kind) → k ≡ struct → (n : ℕ) (fs : List (Spot → Run)) (x : Spot)
-    → readItem head k n (λ a. along (reading head) (following k a) fs) x ≡ headed true (all (reading head) fs) x
-unfolding headed readItem enter head following along times past
-struct-item k e n fs x = rw (e, add-zero (x .place)) (ap (behind (record { first = 0; second = 0; place = x .place } ∷ [])) (then-nothing (all (reading head) fs) x))
+-- a struct is its fields behind its entry
+under-headed : (h : Bool) (n : ℕ) (f : Spot → Run) (x : Spot) → under (reading head) h n f x ≡ headed h f x
+unfolding under headed readItem enter head past
+under-headed true n f x = rw (add-zero (x .place))
+under-headed false n f x = refl
 
-one-node : (s : List ℕ) (l : Layout) (from : ℕ) (x : Spot) → readRow s l from 1 x ≡ walk (reading head) (nodeShape s l (u16At s from)) x
-unfolding readRow all walk shapesAt
-one-node s l from x = then-nothing _ x
+-- numbers below i, and a way that reads the same
+pub record Reading (s : List ℕ) (l : Layout) (i from n : ℕ) (way : Way) : Type 0 where
+  pub falls : Falls s (way .from) (way .width) i
+  pub same : readRow s l from n ≡ headed (way .headed) (readRow s l (way .from) (way .width))
 
-module _ (s : List ℕ) (l : Layout) (i from : ℕ) (g : GoodTable s l) (h : i ≤ l .nodes) where
-  pub flat-bare : (n : ℕ) → Falls s from n i → Flat s l i from n (record { headed = false; from = from; width = n })
-  unfolding headed
-  flat-bare n f = record { falls = f; same = refl }
-
-  pub flat-struct : (n c k first count : ℕ) → Falls s from n i → n ≡ 1 → c ≡ u16At s from → k ≡ 18 → k ≡ nodeAt s (recordOf l c) .number
-      → first ≡ nodeFirst l c (nodeAt s (recordOf l c)) → count ≡ nodeCount (nodeAt s (recordOf l c))
-      → Flat s l i from n (record { headed = true; from = first; width = count })
-  unfolding readRow kindOf kinds
-  flat-struct n c k first count f one child is number at many =
-      let low : c < i = omega (arith, falls-first f (omega arith)) in
-      let good = g .node-good c (omega arith) in
-      let fields = node-falls {i = c} g (omega arith) in
-      rw (at, many, one)
-      (record {
-        falls = record { inside = fields .inside; below = λ j b. let e = fields .below j b in omega arith };
-        same = fun-ext (λ x. one-node s l from x ∙ (rw (← child) (walk-node (reading head) good x ∙ struct-item _ (ap kindOf (sym number ∙ is)) _ _ x)));
-      })
+pub flat-reads : {s : List ℕ} {l : Layout} {i from n : ℕ} {way : Way} → GoodTable s l → i ≤ l .nodes → Flat s l i from n way → Reading s l i from n way
+unfolding readRow
+flat-reads g h f =
+    record { falls = flat-falls g h f; same = fun-ext (λ x. flat-same g h (reading head) then-nothing f x ∙ under-headed _ _ _ x) }
 
 -- ---- the front of a round
 

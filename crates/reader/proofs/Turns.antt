@@ -23,14 +23,15 @@ use Rattle.laws.proofs.Parts.{tail, length-tail}
 use Rattle.laws.proofs.Runs.{fit-reached}
 use Rattle.leaf.specs.Leaves.{takeAt}
 use Rattle.table.specs.declared.Stretch.{Stretch}
+use Rattle.table.specs.declared.Way.{Way}
 use Rattle.reader.specs.declared.Entered.{Entered}
 use Rattle.reader.specs.declared.Entered.the-variants.{On}
 use Rattle.reader.specs.declared.Entered.the-variants as entered
-use Rattle.reader.specs.declared.Way.{Way}
 use Rattle.reader.specs.Lay.{Left, laid, lay, Gives}
-use Rattle.reader.specs.Steps.{spot, readNode, readRow, headed, readRounds, Puts, entry, same, Goes, Enters, goes, stops, Flat}
+use Rattle.reader.specs.Steps.{spot, readNode, readRow, headed, readRounds, Puts, entry, same, Goes, Enters, goes, stops}
 use Rattle.reader.proofs.Entering.{Found, number-small, leads-nowhere, enters-refused, goes-on}
 use Rattle.reader.proofs.Heads.{head-leaf}
+use Rattle.reader.proofs.Rounds.{Reading}
 use Rattle.reader.proofs.Laying.{left, gives-refused, gives-done, lay-nothing, onBy, lay-then}
 
 -- ---- a call, and then more
@@ -86,7 +87,7 @@ module _ (f g : Spot → Run) (steady : (x : Spot) → Stays x (f x .made) (f x 
 -- ---- one node after the other, and one round after the other
 
 -- a way that reads the same, so often
-pub flat-rounds : {s : List ℕ} {l : Layout} {i at n : ℕ} {way : Way} → Flat s l i at n way → (c : ℕ)
+pub flat-rounds : {s : List ℕ} {l : Layout} {i at n : ℕ} {way : Way} → Reading s l i at n way → (c : ℕ)
     → readRounds s l c false at n ≡ readRounds s l c (way .headed) (way .from) (way .width)
 unfolding readRounds headed
 flat-rounds f c = ap (times (reading head) c) (f .same)
@@ -132,7 +133,7 @@ module _ {w : Left} {s : List ℕ} {l : Layout} {i : ℕ} {bs : List ℕ} {p m :
   unfolding past
   item-end e = rounds-end s l (to .rounds) false (to .from) (to .width) w (drop u bs) (p + u) (m + 1) st (g .rest) (omega arith)
 
-  pub item-on : {way : Way} {a : ReadAnswer} {left : List ℕ} → Flat s l i (to .from) (to .width) way
+  pub item-on : {way : Way} {a : ReadAnswer} {left : List ℕ} → Reading s l i (to .from) (to .width) way
       → Gives (lay (readRounds s l (to .rounds) (way .headed) (way .from) (way .width) (spot (take (length bs - u) (drop u bs)) (p + u))) (m + 1) st) a left → Gives w a left
   unfolding past
   item-on f h = rw (g .rest, flat-rounds f (to .rounds)) (rw (tail bs u) at h)

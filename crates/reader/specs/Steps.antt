@@ -22,7 +22,6 @@ use Rattle.table.specs.declared.Stretch.{Stretch}
 use Rattle.table.specs.Parts.{Falls}
 use Rattle.reader.specs.declared.Entered.{Entered}
 use Rattle.reader.specs.declared.Entered.the-variants.{On, Refused}
-use Rattle.reader.specs.declared.Way.{Way}
 use Rattle.reader.specs.declared.Begun.{Begun}
 use Rattle.reader.specs.declared.Begun.the-variants.{At, Full}
 use Rattle.reader.specs.Lay.{Left, lay}
@@ -70,11 +69,6 @@ pub record Goes (whole : Left) (s : List ℕ) (l : Layout) (i : ℕ) (x : Spot) 
 pub data Enters (whole : Left) (s : List ℕ) (l : Layout) (i : ℕ) (x : Spot) (m : ℕ) : Entered → List ℕ → Type 0 where
   goes : {to : Stretch} {used : ℕ} {store : List ℕ} → Goes whole s l i x m to used store → Enters whole s l i x m (On to used) store
   stops : {e : Refusal} {store : List ℕ} → whole ≡ record { ends = refused e (x .place); count = m; store = store } → Enters whole s l i x m (Refused e) store
-
--- a way of n numbers from an offset on, below i, that reads the same
-pub record Flat (s : List ℕ) (l : Layout) (i from n : ℕ) (way : Way) : Type 0 where
-  pub falls : Falls s (way .from) (way .width) i
-  pub same : readRow s l from n ≡ headed (way .headed) (readRow s l (way .from) (way .width))
 
 -- a round's own entry, if it has one, behind the first m
 pub data Begins : Bool → List ℕ → ℕ → Begun → List ℕ → Type 0 where

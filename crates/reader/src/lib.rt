@@ -17,7 +17,7 @@ ghost use Rattle.laws.specs.Tables.{GoodTable};
 ghost use Rattle.leaf.specs.Leaves.{takeAt};
 ghost use Rattle.table.specs.Parts.{Falls};
 ghost use Rattle.reader.specs.Lay.{lay, Gives};
-ghost use Rattle.reader.specs.Steps.{spot, readNode, readRow, readRounds, Inner, Puts, Enters, Flat, Begins};
+ghost use Rattle.reader.specs.Steps.{spot, readNode, readRow, readRounds, Inner, Puts, Enters, Begins};
 ghost use Rattle.reader.specs.Promise.{Reads};
 
 // What an item leaves to do: the stretch that follows it, behind the bytes that it took; or why it is refused.
@@ -171,40 +171,6 @@ fn enter(
 
 // ---- rounds
 
-// A stretch as its rounds go: the numbers of a struct's fields where it is that struct alone, whose entry then heads
-// every round, so that no call is made for it.
-struct Way {
-    headed: bool,
-    from: usize,
-    width: usize,
-}
-
-fn flat(table: &[u8], l: Layout, node: usize, from: usize, width: usize) -> Way
-    requires { ⌜ GoodTable (now table) l ⌝ }
-    requires { ⌜ node ≤ l .nodes ⌝ }
-    requires { ⌜ Falls (now table) from width node ⌝ }
-    ensures { λ r. ⌜ Flat (now (table .entry)) l node from width r ⌝ }
-{
-    if width == 1 {
-        let c = table::u16_at(table, from);
-        let number = table::kind_at(table, l, c);
-        if number == 18 {
-            let first = table::first_child(table, l, c);
-            let count = table::child_count(table, l, c);
-            return Way {
-                headed: true,
-                from: first,
-                width: count,
-            };
-        }
-    }
-    Way {
-        headed: false,
-        from,
-        width,
-    }
-}
-
 // A round's front: the entries that are made then, or no room for its entry.
 enum Begun {
     At { made: usize },
@@ -291,7 +257,7 @@ fn read_inner(
                     count: next,
                 };
             }
-            let way = flat(table, l, node, to.from, to.width);
+            let way = table::flat(table, l, node, to.from, to.width);
             read_rounds(
                 table,
                 l,
@@ -421,7 +387,7 @@ pub fn read(table: &[u8], message: &[u8], store: &mut [u64]) -> ReadAnswer
         },
         Checked::Good { layout } => {
             let root = table::root_at(table);
-            let way = flat(table, layout, layout.nodes, root, 1);
+            let way = table::flat(table, layout, layout.nodes, root, 1);
             read_rounds(
                 table,
                 layout,

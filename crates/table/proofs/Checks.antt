@@ -1,23 +1,20 @@
 -- The check's tests, by what the code finds: of a node, of its children's numbers, of the nodes one after the other, and of the whole.
 -- Assumes nothing.
-use mathlib.Core.Path.{_≡_, refl, sym, ap}
+use mathlib.Core.Path.{_≡_, refl, ap}
 use mathlib.Core.Bool.{Bool, true, false}
 use mathlib.Core.List.{List}
-use Prim.Native.Nat.{ℕ, zero, suc, _+_, _-_, _*_, _<_, _≤_}
+use Prim.Native.Nat.{ℕ, zero, suc, _+_, _-_, _<_, _≤_}
 use native.Mathlib.Omega.{arith}
-use lib.Dec.{eqb, ltb}
+use lib.Dec.{ltb}
 use lib.ListN.{length, getD}
-use borrow.Author.Tests.{leb-true, eq-eqb, ne-eqb, le-leb, lt-leb, lt-ltb, le-ltb}
+use borrow.Author.Tests.{ne-eqb, le-leb, lt-leb, lt-ltb, le-ltb}
 use Rattle.wire.specs.declared.Refusal.the-variants.{Trailer, Record}
 use Rattle.wire.specs.declared.Layout.{Layout}
 use Rattle.wire.specs.declared.Checked.the-variants.{Good, Bad}
 use Rattle.wire.specs.Tests.{pick, given, both}
-use Rattle.wire.specs.Shape.{Kind, plain, pooled, option, sequence, map, struct, enum}
-use Rattle.wire.specs.Table.{u16At, layoutAt, goodTrailer, kinds, isKind, kindOf, Node, nodeAt, recordOf, firstChild, childCount, below, goodPlaces, goodKind, goodNode, checkFrom, checkAt, check}
-use Rattle.laws.specs.Tables.{nodeKind, nodeFirst, nodeCount}
+use Rattle.wire.specs.Table.{u16At, layoutAt, goodTrailer, kinds, isKind, kindOf, nodeAt, recordOf, below, goodKind, goodNode, checkFrom, checkAt, check}
 use Rattle.laws.proofs.Splits.{by-eq}
-use Rattle.laws.proofs.EachKind.{low-kinds}
-use Rattle.table.specs.Parts.{Inside, badAt}
+use Rattle.table.specs.Parts.{badAt}
 
 -- ---- a node
 

@@ -11,18 +11,18 @@ use borrow.Fn.PlainCycle.{Measures, is, falls, and}
 use Rattle.wire.specs.Answers.{roomOf}
 use Rattle.laws.proofs.Parts.{length-tail}
 use Rattle.table.specs.Parts.{Falls}
-use Rattle.table.proofs.Stretches.{falls-first, falls-next}
+use Rattle.table.proofs.Stretches.{falls-first, falls-next, flat-falls}
 use Rattle.table.proofs.kind_at.Reads as kind-at-reads
 use Rattle.table.proofs.u16_at.Reads as u16-at-reads
 use Rattle.reader.specs.Lay.{lay}
 use Rattle.reader.specs.Steps.{spot, readRow, readRounds}
 use Rattle.reader.proofs.Entering.{enters-full}
 use Rattle.reader.proofs.Laying.{gives-refused}
-use Rattle.reader.proofs.Rounds.{begun-full, begun-at}
+use Rattle.reader.proofs.Rounds.{flat-reads, begun-full, begun-at}
 use Rattle.reader.proofs.Turns.{Went, item-goes, item-refused, item-end, item-on, leaf-gives, turn-refused, turned, row-end, row-first, rounds-end, rounds-first, node-steady, row-steady}
 use Rattle.reader.proofs.begin.Reads as begin-reads
 use Rattle.reader.proofs.enter.Reads as enter-reads
-use Rattle.reader.proofs.flat.Reads as flat-reads
+use Rattle.table.proofs.flat.Reads as flat-calls
 use Rattle.reader.proofs.read_leaf.Reads as read-leaf-reads
 use Rattle.reader.proofs.read_inner.Reads as read-inner
 use Rattle.reader.proofs.read_inner.Kinds as read-inner-kinds
@@ -58,7 +58,7 @@ module _ (t : ℕ) where
   inner-at = and 3 read-inner-kinds.ps (is 3 read-inner-kinds.ps μ-inner t) read-inner.Pre
 
   abbrev inner-calls : read-inner-lts.Claims
-  inner-calls = (enter-reads.Asked, enter-reads.Learnt, flat-reads.Asked, flat-reads.Learnt, and 3 read-rounds-kinds.ps (falls 3 read-rounds-kinds.ps _<_ μ-rounds t) read-rounds.Pre, read-rounds.Post)
+  inner-calls = (enter-reads.Asked, enter-reads.Learnt, flat-calls.Asked, flat-calls.Learnt, and 3 read-rounds-kinds.ps (falls 3 read-rounds-kinds.ps _<_ μ-rounds t) read-rounds.Pre, read-rounds.Post)
 
   inner-enter-requires : read-inner-lts.Need-enter-requires inner-calls inner-at read-inner.Post
   inner-enter-requires c κs = let p = c .before .before .before .before .pre .1 in (p .0, (p .1 .0, (p .1 .1 .0, p .1 .1 .1 .0)))
@@ -86,14 +86,16 @@ module _ (t : ℕ) where
       let s = c .before .before .before .before .before .before .before .before .before .before .before .before .before .before .before in
       let low : s .args .node * 4 + 1 < s .args .node * 4 + 2 = omega arith in (
         rw (s .pre .0) at low,
-        (s .pre .1 .0, (omega (arith, s .pre .1 .1 .0), (c .before .before .flat .ensures .falls, omega (arith, inner-inside (c .before .before), s .pre .1 .1 .1 .1 .1, length-tail (s .args .part .now) (c .before .before .before .before .before .before .entered2 .given .0 .1 .0))))),
+        (s .pre .1 .0, (omega (arith, s .pre .1 .1 .0), (flat-falls (s .pre .1 .0) (omega (arith, s .pre .1 .1 .0)) (c .before .before .flat .ensures), omega (arith, inner-inside (c .before .before), s .pre .1 .1 .1 .1 .1, length-tail (s .args .part .now) (c .before .before .before .before .before .before .entered2 .given .0 .1 .0))))),
       )
 
   inner-returns-2 : read-inner-lts.Need-returns-2 inner-calls inner-at read-inner.Post
   inner-returns-2 c = item-refused (c .before .before .before .before .before .enter .ensures) (c .before .entered .given .1)
 
   inner-returns-3 : read-inner-lts.Need-returns-3 inner-calls inner-at read-inner.Post
-  inner-returns-3 c = item-on (item-goes (c .before .before .before .before .before .before .before .before .before .before .before .before .before .enter .ensures) (c .before .before .before .before .before .before .before .before .before .entered2 .given .1)) (c .before .before .before .before .before .flat .ensures) (c .before .before .read-rounds .ensures)
+  inner-returns-3 c =
+      let s = c .before .before .before .before .before .before .before .before .before .before .before .before .before .before .before .before .before .before in
+      item-on (item-goes (c .before .before .before .before .before .before .before .before .before .before .before .before .before .enter .ensures) (c .before .before .before .before .before .before .before .before .before .entered2 .given .1)) (flat-reads (s .pre .1 .0) (omega (arith, s .pre .1 .1 .0)) (c .before .before .before .before .before .flat .ensures)) (c .before .before .read-rounds .ensures)
 
 -- ---- an item
 

@@ -4,7 +4,8 @@ use mathlib.Core.Path.{sym, _∙_}
 use native.Mathlib.Omega.{arith}
 use borrow.Author.Needs.{needs}
 use Rattle.laws.proofs.Tables.{good-table}
-use Rattle.table.proofs.Stretches.{root-falls}
+use Rattle.table.proofs.Stretches.{root-falls, flat-falls}
+use Rattle.reader.proofs.Rounds.{flat-reads}
 use Rattle.reader.proofs.Promised.{reads-bad, reads-good}
 use Rattle.reader.proofs.read.Statement.{statement}
 use Rattle.reader.proofs.read.Tie as tie
@@ -27,7 +28,7 @@ flat-requires c κs = let good = sym (c .before .before .before .before .check .
 
 read-rounds-requires : tie.Need-read-rounds-requires
 read-rounds-requires c κs = let good = sym (c .before .before .before .before .before .before .check .ensures) ∙ c .before .before .before .before .checked2 .given .1 in
-    (good-table _ _ good, (omega arith, (c .before .flat .ensures .falls, omega arith)))
+    (good-table _ _ good, (omega arith, (flat-falls (good-table _ _ good) (omega arith) (c .before .flat .ensures), omega arith)))
 
 returns : tie.Need-returns
 returns c = reads-bad _ _ _ (sym (c .before .before .before .check .ensures) ∙ c .before .checked .given .1)
@@ -36,7 +37,9 @@ same-length : tie.Need-same-length
 same-length c = search needs
 
 returns-2 : tie.Need-returns-2
-returns-2 c = reads-good _ _ _ _ (sym (c .before .before .before .before .before .before .before .before .before .check .ensures) ∙ c .before .before .before .before .before .before .before .checked2 .given .1) (c .before .before .before .before .before .root-at .ensures) (c .before .before .before .before .flat .ensures) (c .before .before .read-rounds .ensures)
+returns-2 c =
+    let good = sym (c .before .before .before .before .before .before .before .before .before .check .ensures) ∙ c .before .before .before .before .before .before .before .checked2 .given .1 in
+    reads-good _ _ _ _ good (c .before .before .before .before .before .root-at .ensures) (flat-reads (good-table _ _ good) (omega arith) (c .before .before .before .before .flat .ensures)) (c .before .before .read-rounds .ensures)
 
 pub read-spec : {M : Type 1} → statement M
 read-spec =

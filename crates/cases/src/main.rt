@@ -49,9 +49,7 @@ fn read_into(name: &[u8], table: &[u8], message: &[u8], store: &mut [u64]) {
         }
         ReadAnswer::Refused { why, place, count } => {
             say(b": refused ");
-            say_why(why);
-            say(b", at ");
-            say_number(place as u64);
+            say_why(why, b", at #", place);
             say_entries(store, count);
         }
     }

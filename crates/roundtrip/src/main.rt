@@ -385,9 +385,7 @@ const WORDS: [u64; 86] = [
 
 fn say_refused(why: Refusal, place: usize) {
     say(b"refused ");
-    say_why(why);
-    say(b", at ");
-    say_number(place as u64);
+    say_why(why, b", at #", place);
 }
 
 fn say_line(bytes: &[u8]) {

@@ -1,9 +1,9 @@
--- `words::say_part` is safe and ends.
+-- `words::part` is safe and ends.
 -- Assumes nothing.
 use Prim.{Unit}
 use borrow.Author.Needs.{needs}
-use Rattle.words.proofs.say_part.Statement.{statement}
-use Rattle.words.proofs.say_part.Tie as tie
+use Rattle.words.proofs.part.Statement.{statement}
+use Rattle.words.proofs.part.Tie as tie
 
 abbrev Inv-loop : tie.InvT-loop
 Inv-loop list k rest₀ left₀ rest left = Unit
@@ -14,8 +14,8 @@ abbrev μ-loop : tie.MeasureT-loop
 loop-holds : tie.Need-loop-holds Inv-loop μ-loop
 loop-holds c = search needs
 
-behind-sign-requires : tie.Need-behind-sign-requires Inv-loop μ-loop
-behind-sign-requires c κs = search needs
+behind-requires : tie.Need-behind-requires Inv-loop μ-loop
+behind-requires c κs = search needs
 
 sub-left : tie.Need-sub-left Inv-loop μ-loop
 sub-left c = search needs
@@ -26,30 +26,26 @@ loop-less c = search needs
 loop-again : tie.Need-loop-again Inv-loop μ-loop
 loop-again c = search needs
 
-before-sign-requires : tie.Need-before-sign-requires Inv-loop μ-loop
-before-sign-requires c κs = search needs
+before-requires : tie.Need-before-requires Inv-loop μ-loop
+before-requires c κs = search needs
 
 front-requires : tie.Need-front-requires Inv-loop μ-loop
 front-requires c κs = search needs
 
-say-requires : tie.Need-say-requires Inv-loop μ-loop
-say-requires c κs = search needs
-
 returns : tie.Need-returns Inv-loop μ-loop
 returns c = search needs
 
-pub say-part-spec : {M : Type 1} → statement M
-say-part-spec =
+pub part-spec : {M : Type 1} → statement M
+part-spec =
     tie.close
     (tie.spec
     Inv-loop
     μ-loop
     loop-holds
-    behind-sign-requires
+    behind-requires
     sub-left
     loop-less
     loop-again
-    before-sign-requires
+    before-requires
     front-requires
-    say-requires
     returns)

@@ -1,16 +1,16 @@
--- `words::before_sign` meets its contract.
+-- `words::before` meets its contract.
 -- Assumes nothing.
 use Prim.Native.Nat.{_-_, _≤_}
 use lib.ListN.{length}
 use borrow.Author.Needs.{needs}
-use Rattle.words.proofs.before_sign.Statement.{statement}
-use Rattle.words.proofs.before_sign.Tie as tie
+use Rattle.words.proofs.before.Statement.{statement}
+use Rattle.words.proofs.before.Tie as tie
 
 abbrev Inv-loop : tie.InvT-loop
-Inv-loop list i₀ i = i ≤ length list
+Inv-loop text sign i₀ i = i ≤ length text
 
 abbrev μ-loop : tie.MeasureT-loop
-μ-loop list i₀ i = length list - i
+μ-loop text sign i₀ i = length text - i
 
 loop-holds : tie.Need-loop-holds Inv-loop μ-loop
 loop-holds c = search needs
@@ -33,8 +33,8 @@ loop-again c = search needs
 returns-2 : tie.Need-returns-2 Inv-loop μ-loop
 returns-2 c = search needs
 
-pub before-sign-spec : {M : Type 1} → statement M
-before-sign-spec =
+pub before-spec : {M : Type 1} → statement M
+before-spec =
     tie.close
     (tie.spec
     Inv-loop

@@ -14,7 +14,7 @@ pub fn say_number(n: u64) {
     io::print_decimal(STDOUT_FILENO, n);
 }
 
-pub fn say_byte(b: u8) {
+fn say_byte(b: u8) {
     say(&spelling::hex(b));
 }
 
@@ -32,9 +32,21 @@ pub fn say_bytes(bytes: &[u8]) {
 }
 
 // An entry's two words.
-pub fn say_entry(first: u64, second: u64) {
+fn say_entry(first: u64, second: u64) {
     say_with(b" (#", first);
     say_with(b", #)", second);
+}
+
+// The first so many entries of a store, or all if there are fewer.
+pub fn say_entries(store: &[u64], count: usize) {
+    let mut i = 0;
+    while i < count {
+        if store.len() / 2 <= i {
+            return;
+        }
+        say_entry(store[2 * i], store[2 * i + 1]);
+        i += 1;
+    }
 }
 
 // The first n bytes, or all if there are fewer.

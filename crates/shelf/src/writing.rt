@@ -71,33 +71,13 @@ fn write_words(table: &[u8], values: &[u8], pool: &[u8]) {
     write_front(table, &words, values.len() / 8, pool);
 }
 
-fn write_from(table: &[u8], values: &[u8]) {
+// Writes the values of a file, with the pool that the command's word 4 names.
+pub fn write_values(table: &[u8], values: &[u8]) {
     let mut room = files::large_room();
     let loaded = files::load(4, &mut room);
     let whole = loaded.whole;
     let len = loaded.len;
     if whole {
         write_words(table, values, &room[..len]);
-    }
-}
-
-fn write_values(table: &[u8]) {
-    let mut room = files::large_room();
-    let loaded = files::load(3, &mut room);
-    let whole = loaded.whole;
-    let len = loaded.len;
-    if whole {
-        write_from(table, &room[..len]);
-    }
-}
-
-// shelf write TABLE VALUES POOL OUT
-pub fn run() {
-    let mut room = io::large_buffer();
-    let loaded = files::load(2, &mut room);
-    let whole = loaded.whole;
-    let len = loaded.len;
-    if whole {
-        write_values(&room[..len]);
     }
 }

@@ -1,11 +1,11 @@
-// The append question, and where the shapes part if the answer is no.
+// Where the shapes of two tables part, if the append question is answered by no.
 use crate::names::say_child;
 use crate::parts::child;
 use crate::tree::say_bad;
 use crate::tree::say_node;
-use parting::Parting;
 use wire::Checked;
 use wire::Layout;
+use wire::Refusal;
 use wire::Side;
 use words::say;
 ghost use Prim.Native.Nat.{_<_};
@@ -14,8 +14,8 @@ ghost use Rattle.laws.specs.Tables.{GoodTable};
 // A path has fewer positions than this.
 const DEEPEST: usize = 256;
 
-// The node that the path's first positions lead to; where a position isn't there, the node above it.
-fn node_at(table: &[u8], l: Layout, path: &[u64; DEEPEST], depth: usize) -> usize
+// The node that the path's first positions lead to; where a position isn't there, the node above it. Aloud, it names them.
+fn node_at(table: &[u8], l: Layout, path: &[u64; DEEPEST], depth: usize, aloud: bool) -> usize
     requires { ⌜ GoodTable (now table) l ⌝ }
     ensures { λ r. ⌜ r < l .nodes ⌝ }
 {
@@ -25,7 +25,12 @@ fn node_at(table: &[u8], l: Layout, path: &[u64; DEEPEST], depth: usize) -> usiz
         if DEEPEST <= i {
             return node;
         }
-        let k = path[i] as usize;
+        let position = path[i];
+        if aloud {
+            say(b", ");
+            say_child(table::kind_at(table, l, node), position);
+        }
+        let k = position as usize;
         if table::child_count(table, l, node) <= k {
             return node;
         }
@@ -35,67 +40,31 @@ fn node_at(table: &[u8], l: Layout, path: &[u64; DEEPEST], depth: usize) -> usiz
     node
 }
 
-// The names of the path's positions, one after the other.
-fn say_positions(table: &[u8], l: Layout, path: &[u64; DEEPEST], depth: usize)
-    requires { ⌜ GoodTable (now table) l ⌝ }
-{
-    let mut i = 0;
-    while i < depth {
-        if DEEPEST <= i {
-            return;
-        }
-        say(b", ");
-        let node = node_at(table, l, path, i);
-        say_child(table::kind_at(table, l, node), path[i]);
-        i += 1;
-    }
-}
-
-fn say_path(table: &[u8], path: &[u64; DEEPEST], depth: usize) {
-    match table::check(table) {
-        Checked::Good { layout } => say_positions(table, layout, path, depth),
-        Checked::Bad { why, place } => say_bad(why, place),
-    }
-}
-
-// The node at the path's end.
-fn say_end(table: &[u8], path: &[u64; DEEPEST], depth: usize) {
+// The node at the path's end, behind a text, and behind the names of the path's positions if asked for.
+fn say_end(table: &[u8], path: &[u64; DEEPEST], depth: usize, aloud: bool, text: &[u8]) {
     match table::check(table) {
         Checked::Good { layout } => {
-            let node = node_at(table, layout, path, depth);
+            let node = node_at(table, layout, path, depth, aloud);
+            say(text);
             say_node(table, layout, node);
         }
         Checked::Bad { why, place } => say_bad(why, place),
     }
 }
 
-fn say_apart(old: &[u8], new: &[u8], path: &[u64; DEEPEST], depth: usize) {
+// The first place where the shapes part, by the positions that lead there.
+pub fn show(old: &[u8], new: &[u8], path: &[u64; DEEPEST], depth: usize) {
     say(b"no: the new table does more than append.\nThe shapes part at root");
-    say_path(old, path, depth);
-    say(b":\n  old: ");
-    say_end(old, path, depth);
-    say(b"\n  new: ");
-    say_end(new, path, depth);
+    say_end(old, path, depth, true, b":\n  old: ");
+    say_end(new, path, depth, false, b"\n  new: ");
     say(b"\n");
 }
 
-fn say_side(side: Side) {
+// The question isn't answered, as one of the tables is not good.
+pub fn show_bad(side: Side, why: Refusal, place: usize) {
     match side {
         Side::Old => say(b"old: "),
         Side::New => say(b"new: "),
     }
-}
-
-// The answer in a sentence, and on no the first place where the shapes part.
-pub fn show(old: &[u8], new: &[u8]) {
-    let mut path = [0u64; DEEPEST];
-    let answer = parting::parts(old, new, &mut path);
-    match answer {
-        Parting::Appends => say(b"yes: the new table only appends to the old one.\n"),
-        Parting::Apart { depth } => say_apart(old, new, &path, depth),
-        Parting::Refused { side, why, place } => {
-            say_side(side);
-            say_bad(why, place);
-        }
-    }
+    say_bad(why, place);
 }

@@ -10,10 +10,8 @@ use wire::ReadAnswer;
 use words::indent;
 use words::say;
 use words::say_bytes;
-use words::say_count;
-use words::say_number;
 use words::say_why;
-ghost use mathlib.Core.Path.{_≡_};
+use words::say_with;
 ghost use Prim.Native.Nat.{_+_, _*_, _≤_, _<_};
 ghost use lib.ListN.{length};
 ghost use Rattle.wire.specs.Table.{nodeAt, recordOf};
@@ -185,13 +183,11 @@ fn show_entries(table: &[u8], l: Layout, words: &[u64], count: usize, message: &
     }
 }
 
-fn show_end(message: &[u8], answer: ReadAnswer) {
+fn show_end(answer: ReadAnswer, rest: &[u8]) {
     match answer {
         ReadAnswer::Done { place, count: _ } => {
-            say(b"read ");
-            say_count(place as u64, b"byte");
-            say(b"; rest:");
-            say_bytes(reader::rest(message, answer));
+            say_with(b"read # byte$; rest:", place as u64);
+            say_bytes(rest);
             say(b"\n");
         }
         ReadAnswer::Refused {
@@ -200,21 +196,9 @@ fn show_end(message: &[u8], answer: ReadAnswer) {
             count: _,
         } => {
             say(b"refused: ");
-            say_why(why);
-            say(b", at byte ");
-            say_number(place as u64);
-            say(b"\n");
+            say_why(why, b", at byte #\n", place);
         }
     }
-}
-
-// The words of 16,384 entries, for a store or a value list.
-const WORDS: usize = 32768;
-
-pub fn words_room() -> [u64; WORDS]
-    ensures { λ r. ⌜ 32768 ≡ length r ⌝ }
-{
-    [0; WORDS]
 }
 
 fn made(answer: ReadAnswer) -> usize {
@@ -228,15 +212,13 @@ fn made(answer: ReadAnswer) -> usize {
     }
 }
 
-// A message read by a table: its entries, and the rest or why it is refused. There is room for 16,384 entries.
-pub fn show(table: &[u8], message: &[u8]) {
+// What reading a message by a table answered: the entries in the store, and the rest or why it is refused.
+pub fn show(table: &[u8], message: &[u8], store: &[u64], answer: ReadAnswer, rest: &[u8]) {
     match table::check(table) {
         Checked::Bad { why, place } => say_bad(why, place),
         Checked::Good { layout } => {
-            let mut store = words_room();
-            let answer = reader::read(table, message, &mut store);
-            show_entries(table, layout, &store, made(answer), message);
-            show_end(message, answer);
+            show_entries(table, layout, store, made(answer), message);
+            show_end(answer, rest);
         }
     }
 }

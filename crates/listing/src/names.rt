@@ -1,7 +1,7 @@
 // The names of kinds, and of a child's position under its parent.
-use words::say;
-use words::say_number;
+use words::part;
 use words::say_part;
+use words::say_with;
 
 // A kind's name, by its number.
 pub fn say_kind(number: u8) {
@@ -14,40 +14,24 @@ pub fn say_kind(number: u8) {
     say_part(names, number as usize);
 }
 
-// The name of a child of a kind, without its number: of 0 for a map's key and every other child, of 1 for a map's value.
-fn say_child_name(number: u8, k: u64) {
-    let names = b"content;element;key;field;variant;value";
+// Which name a kind's child has: a map's value the last of six, a child of another kind its parent's.
+fn name_of(number: u8, k: u64) -> usize {
     match number {
-        15..=19 => {
-            let which = (number - 15) as usize;
-            if which == 2 && k == 1 {
-                return say_part(names, 5);
-            }
-            say_part(names, which);
-        }
-        _ => {}
+        17 => (k % 2 * 3 + 2) as usize,
+        15..=19 => (number - 15) as usize,
+        _ => 6,
     }
 }
 
 // A child's position in the shape: a field or a variant has a number there.
 pub fn say_child(number: u8, k: u64) {
-    say_child_name(number, k);
-    match number {
-        18 | 19 => say_spaced(k),
-        _ => {}
-    }
+    let names = b"content;element;key;field #;variant #;value";
+    say_with(part(names, name_of(number, k)), k);
 }
 
 // The same in a message, where a sequence's elements and a map's pairs are counted too.
 pub fn say_position(number: u8, round: u64, k: u64) {
-    say_child(number, k);
-    match number {
-        16 | 17 => say_spaced(round),
-        _ => {}
-    }
-}
-
-fn say_spaced(n: u64) {
-    say(b" ");
-    say_number(n);
+    let names = b"content;element #;key #;field #;variant #;value #";
+    let n = if number < 18 { round } else { k };
+    say_with(part(names, name_of(number, k)), n);
 }

@@ -7,9 +7,8 @@ use wire::Layout;
 use wire::Refusal;
 use words::indent;
 use words::say;
-use words::say_count;
-use words::say_number;
 use words::say_why;
+use words::say_with;
 ghost use mathlib.Core.Path.{_≡_};
 ghost use Prim.Native.Nat.{_+_, _≤_, _<_};
 ghost use lib.ListN.{length};
@@ -19,26 +18,17 @@ ghost use Rattle.laws.specs.Tables.{nodeCount, GoodTable};
 // A table that is not good: why, and where.
 pub fn say_bad(why: Refusal, place: usize) {
     say(b"the table is not good: ");
-    say_why(why);
     match why {
-        Refusal::Record => say(b", at node "),
-        _ => say(b", at place "),
+        Refusal::Record => say_why(why, b", at node #\n", place),
+        _ => say_why(why, b", at place #\n", place),
     }
-    say_number(place as u64);
-    say(b"\n");
 }
 
 // How many children a struct or an enum has; the other kinds' are always as many.
 fn say_width(number: u8, width: usize) {
     match number {
-        18 => {
-            say(b" of ");
-            say_count(width as u64, b"field");
-        }
-        19 => {
-            say(b" of ");
-            say_count(width as u64, b"variant");
-        }
+        18 => say_with(b" of # field$", width as u64),
+        19 => say_with(b" of # variant$", width as u64),
         _ => {}
     }
 }
@@ -47,9 +37,7 @@ pub fn say_node(table: &[u8], l: Layout, node: usize)
     requires { ⌜ GoodTable (now table) l ⌝ }
     requires { ⌜ node < l .nodes ⌝ }
 {
-    say(b"node ");
-    say_number(node as u64);
-    say(b", ");
+    say_with(b"node #, ", node as u64);
     let number = table::kind_at(table, l, node);
     say_kind(number);
     say_width(number, table::child_count(table, l, node));
@@ -103,9 +91,7 @@ pub fn show(table: &[u8]) {
     match table::check(table) {
         Checked::Bad { why, place } => say_bad(why, place),
         Checked::Good { layout } => {
-            say(b"good table of ");
-            say_count(layout.nodes as u64, b"node");
-            say(b"\nroot: ");
+            say_with(b"good table of # node$\nroot: ", layout.nodes as u64);
             let root = layout.root;
             let mut seen = [0u8; 256];
             show_node(table, layout, root, 0, &mut seen);

@@ -1,18 +1,15 @@
 // A value in its kind's own form, with a space in front if it has one.
 use libc::STDOUT_FILENO;
 use words::front;
+use words::part;
 use words::say;
 use words::say_bytes;
-use words::say_count;
-use words::say_number;
+use words::say_part;
+use words::say_with;
 
 fn say_signed(word: u64) {
-    if spelling::is_negative(word) {
-        say(b" -");
-    } else {
-        say(b" ");
-    }
-    say_number(spelling::size(word));
+    let sign = spelling::is_negative(word) as usize;
+    say_with(part(b" #; -#", sign), spelling::size(word));
 }
 
 fn say_bits(word: u64, digits: usize) {
@@ -57,46 +54,28 @@ fn say_content(text: bool, offset: u64, len: u64, message: &[u8]) {
     }
 }
 
-fn say_presence(first: u64) {
-    if first == 0 {
-        return say(b" absent");
-    }
-    say(b" present");
-}
-
-fn say_truth(first: u64) {
-    if first == 0 {
-        return say(b" false");
-    }
-    say(b" true");
-}
-
-fn say_of(n: u64, thing: &[u8]) {
-    say(b" of ");
-    say_count(n, thing);
-}
-
-// An entry's value behind its kind, of a kind with so many children.
-pub fn say_value(number: u8, width: usize, first: u64, second: u64, message: &[u8]) {
+// A leaf's value behind its kind.
+fn say_leaf(number: u8, first: u64, second: u64, message: &[u8]) {
     match number {
-        0 => say_truth(first),
+        0 => say_part(b" false; true", first as usize),
         1..=4 | 20..=22 | 26..=28 => say_signed(first),
         9 => say_bits(first, 8),
         10 => say_bits(first, 16),
         11 => say_char(first),
         12 | 13 => say_content(number == 12, first, second, message),
         14 => {}
-        15 => say_presence(first),
-        16 => say_of(first, b"element"),
-        17 => say_of(first, b"pair"),
-        18 => say_of(width as u64, b"field"),
-        19 => {
-            say(b", variant ");
-            say_number(first);
-        }
-        _ => {
-            say(b" ");
-            say_number(first);
-        }
+        _ => say_with(b" #", first),
+    }
+}
+
+// An entry's value behind its kind, of a kind with so many children.
+pub fn say_value(number: u8, width: usize, first: u64, second: u64, message: &[u8]) {
+    match number {
+        15 => say_part(b" absent; present", first as usize),
+        16 => say_with(b" of # element$", first),
+        17 => say_with(b" of # pair$", first),
+        18 => say_with(b" of # field$", width as u64),
+        19 => say_with(b", variant #", first),
+        _ => say_leaf(number, first, second, message),
     }
 }

@@ -1,5 +1,1 @@
 pub mod Bits
-pub mod Numbers
-pub mod Fields
-pub mod Puts
-pub mod Sums

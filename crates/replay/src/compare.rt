@@ -1,15 +1,15 @@
 // Asks again what a record asked, and compares the whole of the answer with the record's. HOW.md has
 // the order of a record's parts.
-use crate::field;
-use crate::memory;
+use records::field;
+use records::memory;
 use wire::AskAnswer;
 use wire::ReadAnswer;
-use wire::Refusal;
 use wire::Side;
 use wire::TakeAnswer;
 use wire::WriteAnswer;
+use words::number;
 ghost use mathlib.Core.Path.{_≡_};
-ghost use Rattle.wire.specs.Answers.{refusalNumber, readSays, writeSays, askSays, takeSays};
+ghost use Rattle.wire.specs.Answers.{readSays, writeSays, askSays, takeSays};
 ghost use Rattle.replay.specs.Told.{sideNumber, Tells, made, which};
 
 // The room for the words of a store or a value list, for the bytes of an output and of an accumulator.
@@ -47,26 +47,6 @@ pub fn fields(kind: Kind) -> usize {
         Kind::Append => 5,
         Kind::Feed => 10,
         Kind::Take => 8,
-    }
-}
-
-// Document 01's number of a refusal.
-fn number(why: Refusal) -> u64
-    ensures { λ r. ⌜ r ≡ refusalNumber why ⌝ }
-{
-    match why {
-        Refusal::Trailer => 1,
-        Refusal::Record => 2,
-        Refusal::End => 3,
-        Refusal::Varint => 4,
-        Refusal::Bool => 5,
-        Refusal::Char => 6,
-        Refusal::Utf8 => 7,
-        Refusal::Option => 8,
-        Refusal::Variant => 9,
-        Refusal::Room => 10,
-        Refusal::Values => 11,
-        Refusal::Full => 12,
     }
 }
 

@@ -1,17 +1,14 @@
 // Replays recorded answers of the oracle: asks the same again, compares the whole of each answer,
 // and writes a line for each kind of request. HOW.md says how the lists were made.
 mod compare;
-mod field;
-mod memory;
 
 use compare::Kind;
 use libc::STDOUT_FILENO;
+use records::field;
+use records::memory;
 use words::say;
-use words::say_number;
+use words::say_with;
 ghost use Prim.Native.Nat.{_+_, _^_, _<_, _≤_};
-
-// A list has fewer bytes than this.
-const ROOM: usize = 131072;
 
 // How many records were replayed, and how many of them agree.
 struct Tally {
@@ -19,20 +16,14 @@ struct Tally {
     agree: u64,
 }
 
-fn say_record(text: &[u8], which: u64) {
-    say(b"record ");
-    say_number(which);
-    say(text);
-}
-
 // Whether a record agrees; says so if it doesn't.
 fn try_record(kind: Kind, record: &[u8], which: u64) -> bool {
     if !field::is_whole(record, compare::fields(kind)) {
-        say_record(b" is not one of this kind\n", which);
+        say_with(b"record # is not one of this kind\n", which);
         return false;
     }
     if !compare::agrees(kind, record) {
-        say_record(b" differs\n", which);
+        say_with(b"record # differs\n", which);
         return false;
     }
     true
@@ -67,36 +58,30 @@ fn try_list(kind: Kind, list: &[u8]) -> Tally
     Tally { records, agree }
 }
 
-fn say_tally(name: &[u8], tally: Tally) {
+// Replays the list of a kind, and says how many agree, of how many bytes it is, and their sum.
+fn replay_list(kind: Kind, name: &[u8], list: &[u8]) {
+    let tally = try_list(kind, list);
     say(name);
-    say(b": ");
-    say_number(tally.agree);
-    say(b" of ");
-    say_number(tally.records);
-    say(b" agree; ");
+    say_with(b": # of ", tally.agree);
+    say_with(b"# agree; ", tally.records);
+    say_with(b"# bytes, sum ", list.len() as u64);
+    io::print_hex(STDOUT_FILENO, memory::sum(list), 8);
+    say(b"\n");
 }
 
-// Replays the list of a kind, and says how many agree, of how many bytes it is, and their sum.
 fn replay(kind: Kind, path: &[u8]) {
     let fd = os::open_read(path);
     if fd < 0 {
-        os::fail(path);
-        return;
+        return os::fail(path);
     }
-    let mut room = [0u8; ROOM];
+    let mut room = memory::room();
     let end = io::read_full(fd, &mut room);
     libc::close(fd);
-    if end == ROOM {
+    if end == room.len() {
         say(path);
-        say(b": larger than the room for a list\n");
-        return;
+        return say(b": larger than the room for a list\n");
     }
-    let list = &room[..end];
-    say_tally(path, try_list(kind, list));
-    say_number(end as u64);
-    say(b" bytes, sum ");
-    io::print_hex(STDOUT_FILENO, memory::sum(list), 8);
-    say(b"\n");
+    replay_list(kind, path, &room[..end]);
 }
 
 fn main() {

@@ -1,6 +1,6 @@
 // A file named by a word of the command, whole or not at all.
 use words::say;
-use words::say_number;
+use words::say_with;
 ghost use mathlib.Core.Path.{_≡_};
 ghost use lib.ListN.{length};
 ghost use Rattle.io.specs.Counts.{Counts};
@@ -12,6 +12,15 @@ pub fn large_room() -> [u8; LARGE]
     ensures { λ r. ⌜ 262144 ≡ length r ⌝ }
 {
     [0; LARGE]
+}
+
+// The words of 16,384 entries, for a store or a value list.
+const WORDS: usize = 32768;
+
+pub fn words_room() -> [u64; WORDS]
+    ensures { λ r. ⌜ 32768 ≡ length r ⌝ }
+{
+    [0; WORDS]
 }
 
 // Whether a file is there whole, and how many bytes it has.
@@ -30,9 +39,7 @@ fn is_ended(fd: i32, path: &[u8], room: usize) -> bool {
     }
     if 0 < more {
         say(path);
-        say(b": larger than the room of ");
-        say_number(room as u64);
-        say(b" bytes\n");
+        say_with(b": larger than the room of # bytes\n", room as u64);
         return false;
     }
     true
@@ -78,9 +85,7 @@ pub fn save(i: usize, bytes: &[u8]) {
     if !done || closed < 0 {
         return os::fail(name);
     }
-    say(b"wrote ");
-    say_number(bytes.len() as u64);
-    say(b" bytes to ");
+    say_with(b"wrote # bytes to ", bytes.len() as u64);
     say(name);
     say(b"\n");
 }

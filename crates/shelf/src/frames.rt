@@ -6,8 +6,7 @@ use wire::FeedAnswer;
 use words::front;
 use words::say;
 use words::say_bytes;
-use words::say_count;
-use words::say_number;
+use words::say_with;
 ghost use Prim.Native.Nat.{_+_, _^_, _≤_, _<_};
 ghost use lib.ListN.{length};
 ghost use Rattle.wire.specs.Frames.{room};
@@ -15,20 +14,10 @@ ghost use Rattle.wire.specs.Frames.{room};
 // So many bytes of the stream are fed at a time.
 const CHUNK: usize = 64;
 
-fn say_refused(what: &[u8], place: usize) {
-    say(b"refused: ");
-    say(what);
-    say(b", at byte ");
-    say_number(place as u64);
-    say(b"\n");
-}
-
 // A frame's message, which ends before a place of the stream.
 fn say_frame(fed: Fed, place: usize) {
     let message = fed.message;
-    say(b"frame up to byte ");
-    say_number(place as u64);
-    say(b":");
+    say_with(b"frame up to byte #:", place as u64);
     say_bytes(front(&message, fed.len));
     say(b"\n");
 }
@@ -37,10 +26,10 @@ fn say_fed(fed: Fed, place: usize) {
     let answer = fed.answer;
     match answer {
         FeedAnswer::Consumed => {}
-        FeedAnswer::OverFull => say_refused(b"21, over-full", place),
-        FeedAnswer::BadFrame => say_refused(b"22, bad frame", place),
+        FeedAnswer::OverFull => say_with(b"refused: 21, over-full, at byte #\n", place as u64),
+        FeedAnswer::BadFrame => say_with(b"refused: 22, bad frame, at byte #\n", place as u64),
         FeedAnswer::Frame => say_frame(fed, place),
-        FeedAnswer::BadState => say_refused(b"24, bad state", place),
+        FeedAnswer::BadState => say_with(b"refused: 24, bad state, at byte #\n", place as u64),
     }
 }
 
@@ -81,8 +70,10 @@ fn show(stream: &[u8]) {
         at = to;
     }
     if 0 < state.idx {
-        say_count(state.idx as u64, b"byte");
-        say(b" of an unfinished frame at the end\n");
+        say_with(
+            b"# byte$ of an unfinished frame at the end\n",
+            state.idx as u64,
+        );
     }
 }
 

@@ -55,14 +55,52 @@ fn words_of(verb: Verb) -> usize {
     }
 }
 
+// shelf append OLD NEW, with the old table.
+fn run_on_new(old: &[u8]) {
+    let mut room = io::large_buffer();
+    let loaded = files::load(3, &mut room);
+    let whole = loaded.whole;
+    let len = loaded.len;
+    if whole {
+        shown::ask(old, &room[..len]);
+    }
+}
+
+// shelf read TABLE MESSAGE or shelf write TABLE VALUES POOL OUT, with the table.
+fn run_on_file(verb: Verb, table: &[u8]) {
+    let mut room = files::large_room();
+    let loaded = files::load(3, &mut room);
+    let whole = loaded.whole;
+    let len = loaded.len;
+    if whole {
+        match verb {
+            Verb::Read => shown::read(table, &room[..len]),
+            _ => writing::write_values(table, &room[..len]),
+        }
+    }
+}
+
+// A command that names a table first.
+fn run_on_table(verb: Verb) {
+    let mut room = io::large_buffer();
+    let loaded = files::load(2, &mut room);
+    let whole = loaded.whole;
+    let len = loaded.len;
+    if whole {
+        let table = &room[..len];
+        match verb {
+            Verb::Table => listing::tree::show(table),
+            Verb::Append => run_on_new(table),
+            _ => run_on_file(verb, table),
+        }
+    }
+}
+
 fn run(verb: Verb) {
     match verb {
-        Verb::Table => shown::table(),
-        Verb::Read => shown::message(),
-        Verb::Append => shown::question(),
         Verb::Frames => frames::run(),
-        Verb::Write => writing::run(),
         Verb::Unknown => say_usage(),
+        _ => run_on_table(verb),
     }
 }
 

@@ -4,9 +4,8 @@ use wire::Item;
 use wire::WriteAnswer;
 use words::front;
 use words::say;
-use words::say_count;
-use words::say_number;
 use words::say_why;
+use words::say_with;
 ghost use Prim.Native.Nat.{_≤_};
 ghost use lib.ListN.{length};
 
@@ -46,10 +45,7 @@ fn write(table: &[u8], words: &[u64], pool: &[u8]) {
     match writer::write(table, words, pool, &mut out) {
         WriteAnswer::Refused { why, place } => {
             say(b"refused: ");
-            say_why(why);
-            say(b", at place ");
-            say_number(place as u64);
-            say(b"; nothing is written\n");
+            say_why(why, b", at place #; nothing is written\n", place);
         }
         WriteAnswer::Done { place } => {
             files::save(5, front(&out, place));
@@ -65,42 +61,23 @@ fn write_front(table: &[u8], words: &[u64], count: usize, pool: &[u8]) {
 
 fn write_words(table: &[u8], values: &[u8], pool: &[u8]) {
     if values.len() % 8 != 0 {
-        say(b"the values are no whole words of eight bytes: ");
-        say_count(values.len() as u64, b"byte");
-        return say(b"\n");
+        return say_with(
+            b"the values are no whole words of eight bytes: # byte$\n",
+            values.len() as u64,
+        );
     }
-    let mut words = listing::entries::words_room();
+    let mut words = files::words_room();
     put_words(values, &mut words);
     write_front(table, &words, values.len() / 8, pool);
 }
 
-fn write_from(table: &[u8], values: &[u8]) {
+// Writes the values of a file, with the pool that the command's word 4 names.
+pub fn write_values(table: &[u8], values: &[u8]) {
     let mut room = files::large_room();
     let loaded = files::load(4, &mut room);
     let whole = loaded.whole;
     let len = loaded.len;
     if whole {
         write_words(table, values, &room[..len]);
-    }
-}
-
-fn write_values(table: &[u8]) {
-    let mut room = files::large_room();
-    let loaded = files::load(3, &mut room);
-    let whole = loaded.whole;
-    let len = loaded.len;
-    if whole {
-        write_from(table, &room[..len]);
-    }
-}
-
-// shelf write TABLE VALUES POOL OUT
-pub fn run() {
-    let mut room = io::large_buffer();
-    let loaded = files::load(2, &mut room);
-    let whole = loaded.whole;
-    let len = loaded.len;
-    if whole {
-        write_values(&room[..len]);
     }
 }

@@ -14,17 +14,7 @@ pub fn say_number(n: u64) {
     io::print_decimal(STDOUT_FILENO, n);
 }
 
-// A number and the thing counted, with an s behind it unless it is one.
-pub fn say_count(n: u64, thing: &[u8]) {
-    say_number(n);
-    say(b" ");
-    say(thing);
-    if n != 1 {
-        say(b"s");
-    }
-}
-
-pub fn say_byte(b: u8) {
+fn say_byte(b: u8) {
     say(&spelling::hex(b));
 }
 
@@ -42,12 +32,21 @@ pub fn say_bytes(bytes: &[u8]) {
 }
 
 // An entry's two words.
-pub fn say_entry(first: u64, second: u64) {
-    say(b" (");
-    say_number(first);
-    say(b", ");
-    say_number(second);
-    say(b")");
+fn say_entry(first: u64, second: u64) {
+    say_with(b" (#", first);
+    say_with(b", #)", second);
+}
+
+// The first so many entries of a store, or all if there are fewer.
+pub fn say_entries(store: &[u64], count: usize) {
+    let mut i = 0;
+    while i < count {
+        if store.len() / 2 <= i {
+            return;
+        }
+        say_entry(store[2 * i], store[2 * i + 1]);
+        i += 1;
+    }
 }
 
 // The first n bytes, or all if there are fewer.
@@ -69,13 +68,13 @@ pub fn indent(depth: usize) {
     }
 }
 
-// How many bytes stand before the first `;`.
-fn before_sign(list: &[u8]) -> usize
-    ensures { λ r. ⌜ r ≤ length (now (list .entry)) ⌝ }
+// How many bytes stand before the first such sign; all if there is none.
+fn before(text: &[u8], sign: u8) -> usize
+    ensures { λ r. ⌜ r ≤ length (now (text .entry)) ⌝ }
 {
     let mut i = 0;
-    while i < list.len() {
-        if list[i] == b';' {
+    while i < text.len() {
+        if text[i] == sign {
             return i;
         }
         i += 1;
@@ -83,25 +82,49 @@ fn before_sign(list: &[u8]) -> usize
     i
 }
 
-// What stands behind the first `;`.
-fn behind_sign<'a>(list: &'a [u8]) -> &'a [u8] {
-    let end = before_sign(list);
-    if end < list.len() {
-        return &list[end + 1..];
+// What stands behind the first such sign.
+fn behind<'a>(text: &'a [u8], sign: u8) -> &'a [u8] {
+    let end = before(text, sign);
+    if end < text.len() {
+        return &text[end + 1..];
     }
-    &list[end..]
+    &text[end..]
 }
 
 // The part k of a list, whose parts stand between `;`.
-pub fn say_part(list: &[u8], k: usize) {
+pub fn part<'a>(list: &'a [u8], k: usize) -> &'a [u8] {
     let mut rest = list;
     let mut left = k;
     while 0 < left {
-        let next = behind_sign(rest);
+        let next = behind(rest, b';');
         rest = next;
         left -= 1;
     }
-    say(front(rest, before_sign(rest)));
+    front(rest, before(rest, b';'))
+}
+
+pub fn say_part(list: &[u8], k: usize) {
+    say(part(list, k));
+}
+
+// A text behind its number: an s stands for its `$`, unless the number is one.
+fn say_behind(text: &[u8], n: u64) {
+    let end = before(text, b'$');
+    say(front(text, end));
+    if end < text.len() && n != 1 {
+        say(b"s");
+    }
+    say(behind(text, b'$'));
+}
+
+// A text with a number in place of its `#`, and behind that an s in place of its `$`, unless the number is one.
+pub fn say_with(text: &[u8], n: u64) {
+    let end = before(text, b'#');
+    say(front(text, end));
+    if end < text.len() {
+        say_number(n);
+        say_behind(behind(text, b'#'), n);
+    }
 }
 
 // Document 01's number of a refusal.
@@ -124,14 +147,14 @@ pub fn number(why: Refusal) -> u64
     }
 }
 
-// A refusal's number, and its words.
-pub fn say_why(why: Refusal) {
+// A refusal's number and its words, and a text with its place.
+pub fn say_why(why: Refusal, text: &[u8], place: usize) {
     let n = number(why);
-    say_number(n);
-    say(b", ");
+    say_with(b"#, ", n);
     let names =
         b";the trailer is not good;a record is not good;the message ends inside an item;bad varint;bad bool;bad char;\
         bad UTF-8;bad option;the table has no such variant;no room for this item's entry;the value list does not fit;\
         the output is full";
     say_part(names, n as usize);
+    say_with(text, place as u64);
 }

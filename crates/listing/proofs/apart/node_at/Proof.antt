@@ -6,10 +6,10 @@ use Rattle.listing.proofs.apart.node_at.Statement.{statement}
 use Rattle.listing.proofs.apart.node_at.Tie as tie
 
 abbrev Inv-loop : tie.InvT-loop
-Inv-loop table l path depth node₀ i₀ node i = node < l .nodes
+Inv-loop table l path depth aloud node₀ i₀ t10 node i = node < l .nodes
 
 abbrev μ-loop : tie.MeasureT-loop
-μ-loop table l path depth node₀ i₀ node i = depth - i
+μ-loop table l path depth aloud node₀ i₀ t10 node i = depth - i
 
 loop-holds : tie.Need-loop-holds Inv-loop μ-loop
 loop-holds c = search needs
@@ -17,11 +17,23 @@ loop-holds c = search needs
 returns : tie.Need-returns Inv-loop μ-loop
 returns c = search needs
 
-mul-k : tie.Need-mul-k Inv-loop μ-loop
-mul-k c = search needs
+mul-position : tie.Need-mul-position Inv-loop μ-loop
+mul-position c = search needs
 
-element-copy-out-k : tie.Need-element-copy-out-k Inv-loop μ-loop
-element-copy-out-k c = search needs
+element-copy-out-position : tie.Need-element-copy-out-position Inv-loop μ-loop
+element-copy-out-position c = search needs
+
+slice-aggregate-say : tie.Need-slice-aggregate-say Inv-loop μ-loop
+slice-aggregate-say c = search needs
+
+say-requires : tie.Need-say-requires Inv-loop μ-loop
+say-requires c κs = search needs
+
+kind-at-requires : tie.Need-kind-at-requires Inv-loop μ-loop
+kind-at-requires c κs = search needs
+
+say-child-requires : tie.Need-say-child-requires Inv-loop μ-loop
+say-child-requires c κs = search needs
 
 child-count-requires : tie.Need-child-count-requires Inv-loop μ-loop
 child-count-requires c κs = search needs
@@ -52,8 +64,12 @@ node-at-spec =
     μ-loop
     loop-holds
     returns
-    mul-k
-    element-copy-out-k
+    mul-position
+    element-copy-out-position
+    slice-aggregate-say
+    say-requires
+    kind-at-requires
+    say-child-requires
     child-count-requires
     returns-2
     child-requires

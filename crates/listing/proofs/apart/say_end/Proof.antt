@@ -15,8 +15,11 @@ enum-known-layout c = search needs
 node-at-requires : tie.Need-node-at-requires
 node-at-requires c κs = good-table _ _ (sym (c .before .before .before .check .ensures) ∙ c .before .layout .given .1)
 
+say-requires : tie.Need-say-requires
+say-requires c κs = search needs
+
 say-node-requires : tie.Need-say-node-requires
-say-node-requires c κs = (good-table _ _ (sym (c .before .before .before .before .check .ensures) ∙ c .before .before .layout .given .1), c .node-at .ensures)
+say-node-requires c κs = (good-table _ _ (sym (c .before .before .before .before .before .check .ensures) ∙ c .before .before .before .layout .given .1), c .before .node-at .ensures)
 
 enum-known-why : tie.Need-enum-known-why
 enum-known-why c = search needs
@@ -37,6 +40,7 @@ say-end-spec =
     check-requires
     enum-known-layout
     node-at-requires
+    say-requires
     say-node-requires
     enum-known-why
     say-bad-requires

@@ -18,23 +18,11 @@ say-bad-requires c κs = search needs
 enum-known-layout : tie.Need-enum-known-layout
 enum-known-layout c = search needs
 
-words-room-requires : tie.Need-words-room-requires
-words-room-requires c κs = search needs
-
-slice-aggregate-read : tie.Need-slice-aggregate-read
-slice-aggregate-read c = search needs
-
-read-requires : tie.Need-read-requires
-read-requires c κs = search needs
-
-slice-aggregate-show-entries : tie.Need-slice-aggregate-show-entries
-slice-aggregate-show-entries c = search needs
-
 made-requires : tie.Need-made-requires
 made-requires c κs = search needs
 
 show-entries-requires : tie.Need-show-entries-requires
-show-entries-requires c κs = good-table _ _ (sym (c .before .before .before .before .before .before .before .before .before .check .ensures) ∙ c .before .before .before .before .before .before .before .layout .given .1)
+show-entries-requires c κs = good-table _ _ (sym (c .before .before .before .before .check .ensures) ∙ c .before .before .layout .given .1)
 
 show-end-requires : tie.Need-show-end-requires
 show-end-requires c κs = search needs
@@ -53,10 +41,6 @@ show-spec =
     enum-known-why
     say-bad-requires
     enum-known-layout
-    words-room-requires
-    slice-aggregate-read
-    read-requires
-    slice-aggregate-show-entries
     made-requires
     show-entries-requires
     show-end-requires

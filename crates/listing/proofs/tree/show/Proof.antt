@@ -19,29 +19,17 @@ say-bad-requires c κs = search needs
 enum-known-layout : tie.Need-enum-known-layout
 enum-known-layout c = search needs
 
-slice-aggregate-say : tie.Need-slice-aggregate-say
-slice-aggregate-say c = search needs
+slice-aggregate-say-with : tie.Need-slice-aggregate-say-with
+slice-aggregate-say-with c = search needs
 
-say-requires : tie.Need-say-requires
-say-requires c κs = search needs
-
-slice-aggregate-say-count : tie.Need-slice-aggregate-say-count
-slice-aggregate-say-count c = search needs
-
-say-count-requires : tie.Need-say-count-requires
-say-count-requires c κs = search needs
-
-slice-aggregate-say-2 : tie.Need-slice-aggregate-say-2
-slice-aggregate-say-2 c = search needs
-
-say-requires-2 : tie.Need-say-requires-2
-say-requires-2 c κs = search needs
+say-with-requires : tie.Need-say-with-requires
+say-with-requires c κs = search needs
 
 slice-aggregate-show-node : tie.Need-slice-aggregate-show-node
 slice-aggregate-show-node c = search needs
 
 show-node-requires : tie.Need-show-node-requires
-show-node-requires c κs = let good = good-table _ _ (sym (c .before .before .before .before .before .before .before .before .before .before .check .ensures) ∙ c .before .before .before .before .before .before .before .before .layout .given .1) in (good, (good .root-below, omega (arith, good .root-below, good .few-nodes), search needs))
+show-node-requires c κs = let good = good-table _ _ (sym (c .before .before .before .before .before .before .check .ensures) ∙ c .before .before .before .before .layout .given .1) in (good, (good .root-below, omega (arith, good .root-below, good .few-nodes), search needs))
 
 returns : tie.Need-returns
 returns c = search needs
@@ -57,12 +45,8 @@ show-spec =
     enum-known-why
     say-bad-requires
     enum-known-layout
-    slice-aggregate-say
-    say-requires
-    slice-aggregate-say-count
-    say-count-requires
-    slice-aggregate-say-2
-    say-requires-2
+    slice-aggregate-say-with
+    say-with-requires
     slice-aggregate-show-node
     show-node-requires
     returns

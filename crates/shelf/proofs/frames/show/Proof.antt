@@ -8,10 +8,10 @@ use Rattle.shelf.proofs.frames.show.Statement.{statement}
 use Rattle.shelf.proofs.frames.show.Tie as tie
 
 abbrev Inv-loop : tie.InvT-loop
-Inv-loop stream state₀ at₀ t6 t7 state at = state .idx ≤ room
+Inv-loop stream state₀ at₀ t6 state at = state .idx ≤ room
 
 abbrev μ-loop : tie.MeasureT-loop
-μ-loop stream state₀ at₀ t6 t7 state at = length stream - at
+μ-loop stream state₀ at₀ t6 state at = length stream - at
 
 new-requires : tie.Need-new-requires Inv-loop μ-loop
 new-requires c κs = search needs
@@ -40,17 +40,11 @@ loop-less c = search needs
 loop-again : tie.Need-loop-again Inv-loop μ-loop
 loop-again c = search needs
 
-slice-aggregate-say-count : tie.Need-slice-aggregate-say-count Inv-loop μ-loop
-slice-aggregate-say-count c = search needs
+slice-aggregate-say-with : tie.Need-slice-aggregate-say-with Inv-loop μ-loop
+slice-aggregate-say-with c = search needs
 
-say-count-requires : tie.Need-say-count-requires Inv-loop μ-loop
-say-count-requires c κs = search needs
-
-slice-aggregate-say : tie.Need-slice-aggregate-say Inv-loop μ-loop
-slice-aggregate-say c = search needs
-
-say-requires : tie.Need-say-requires Inv-loop μ-loop
-say-requires c κs = search needs
+say-with-requires : tie.Need-say-with-requires Inv-loop μ-loop
+say-with-requires c κs = search needs
 
 returns : tie.Need-returns Inv-loop μ-loop
 returns c = search needs
@@ -73,9 +67,7 @@ show-spec =
     feed-all-requires
     loop-less
     loop-again
-    slice-aggregate-say-count
-    say-count-requires
-    slice-aggregate-say
-    say-requires
+    slice-aggregate-say-with
+    say-with-requires
     returns
     returns-2)

@@ -6,10 +6,10 @@ use mathlib.Core.List.{List, [], _++_, append-nil, append-assoc}
 use Prim.Native.Nat.{ℕ, _^_, _<_}
 use lib.ListN.{length}
 use Rattle.wire.specs.Writing.{Left, Wrote, wrote, misfit, after, writeNothing, writeOn, writeThen}
+use Rattle.forms.proofs.Counting.{puts-none, puts-both}
 use Rattle.writer.specs.declared.Put.{Put}
 use Rattle.writer.specs.declared.Put.the-variants.{Done, Misfit}
 use Rattle.writer.specs.Steps.{entries, Sure, Going, GivesBy, Gives}
-use Rattle.writer.proofs.Counting.{puts-none, puts-both}
 
 -- ---- bytes in front
 

@@ -22,10 +22,10 @@ use Rattle.laws.proofs.EachKind.{low-kinds, high-kinds}
 use Rattle.table.specs.declared.Stretch.{Stretch}
 use Rattle.table.specs.Parts.{followed, Falls}
 use Rattle.table.proofs.Stretches.{falls-followed, node-falls, along-followed}
+use Rattle.forms.specs.Bytes.{Puts}
+use Rattle.forms.specs.Own.{isSome, IsLeaf, Known, Fits, SpellsEntry}
 use Rattle.writer.specs.declared.Entered.{Entered}
 use Rattle.writer.specs.declared.Entered.the-variants.{On, Misfit}
-use Rattle.writer.specs.Bytes.{Puts}
-use Rattle.writer.specs.Own.{isSome, IsLeaf, Known, Fits, SpellsEntry}
 use Rattle.writer.specs.Steps.{entries, writeLeaf, writeNode, writeRow, headed, writeRounds, Sure, Going, Goes, Enters}
 use Rattle.writer.proofs.Entries.{entryAt, entries-none, entries-more}
 use Rattle.writer.proofs.Going.{then-nothing}

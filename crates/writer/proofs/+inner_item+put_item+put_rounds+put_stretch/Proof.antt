@@ -13,7 +13,7 @@ use Rattle.table.specs.Parts.{Falls}
 use Rattle.table.proofs.Stretches.{falls-first, falls-next}
 use Rattle.table.proofs.kind_at.Reads as kind-at-reads
 use Rattle.table.proofs.u16_at.Reads as u16-at-reads
-use Rattle.writer.specs.Own.{IsLeaf}
+use Rattle.forms.specs.Own.{IsLeaf}
 use Rattle.writer.specs.Steps.{entries, writeRow, writeRounds, Going}
 use Rattle.writer.proofs.Going.{going-begin, no-going-on, gives-whole, sure-rest, sure-first, first-misfit, first-done, going-end, gives-misfit}
 use Rattle.writer.proofs.Nodes.{node-end, node-number, node-leaf, entered-on, entered-misfit}

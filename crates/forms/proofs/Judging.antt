@@ -76,29 +76,29 @@ module _ {a : ℕ} {r : Bool} where
   unfolding headBytes
   leaf x t s e f = record { with = λ n. record { at = λ pool. e ∙ some-single t s ∙ ap isSome (sym f) } }
 
-  pub judges-bool : (k : ℕ) → k < 1 → r ≡ leb a 1 → JudgesLeaf (kindOf k) a r
+  pub judges-bool : (k : ℕ) → k ≡ 0 → r ≡ leb a 1 → JudgesLeaf (kindOf k) a r
   unfolding numbered
-  judges-bool k h e = in-kinds (λ x. JudgesLeaf x a r) 0 1 refl (leaf bool _ _ e refl & end) k (omega arith) (omega arith)
+  judges-bool k q e = rw q (leaf bool _ _ e refl)
 
-  pub judges-i8 : (k : ℕ) → 1 ≤ k → k < 2 → r ≡ isWord signed 8 a → JudgesLeaf (kindOf k) a r
+  pub judges-i8 : (k : ℕ) → k ≡ 1 → r ≡ isWord signed 8 a → JudgesLeaf (kindOf k) a r
   unfolding numbered
-  judges-i8 k l h e = in-kinds (λ x. JudgesLeaf x a r) 1 1 refl (leaf i8 _ _ e refl & end) k l (omega arith)
+  judges-i8 k q e = rw q (leaf i8 _ _ e refl)
 
-  pub judges-u8 : (k : ℕ) → 5 ≤ k → k < 6 → r ≡ isWord unsigned 8 a → JudgesLeaf (kindOf k) a r
+  pub judges-u8 : (k : ℕ) → k ≡ 5 → r ≡ isWord unsigned 8 a → JudgesLeaf (kindOf k) a r
   unfolding numbered
-  judges-u8 k l h e = in-kinds (λ x. JudgesLeaf x a r) 5 1 refl (leaf u8 _ _ e refl & end) k l (omega arith)
+  judges-u8 k q e = rw q (leaf u8 _ _ e refl)
 
-  pub judges-f32 : (k : ℕ) → 9 ≤ k → k < 10 → r ≡ isWord unsigned 32 a → JudgesLeaf (kindOf k) a r
+  pub judges-f32 : (k : ℕ) → k ≡ 9 → r ≡ isWord unsigned 32 a → JudgesLeaf (kindOf k) a r
   unfolding numbered
-  judges-f32 k l h e = in-kinds (λ x. JudgesLeaf x a r) 9 1 refl (leaf f32 _ _ e refl & end) k l (omega arith)
+  judges-f32 k q e = rw q (leaf f32 _ _ e refl)
 
-  pub judges-f64 : (k : ℕ) → 10 ≤ k → k < 11 → r ≡ isWord unsigned 64 a → JudgesLeaf (kindOf k) a r
+  pub judges-f64 : (k : ℕ) → k ≡ 10 → r ≡ isWord unsigned 64 a → JudgesLeaf (kindOf k) a r
   unfolding numbered
-  judges-f64 k l h e = in-kinds (λ x. JudgesLeaf x a r) 10 1 refl (leaf f64 _ _ e refl & end) k l (omega arith)
+  judges-f64 k q e = rw q (leaf f64 _ _ e refl)
 
-  pub judges-char : (k : ℕ) → 11 ≤ k → k < 12 → r ≡ isChar a → JudgesLeaf (kindOf k) a r
+  pub judges-char : (k : ℕ) → k ≡ 11 → r ≡ isChar a → JudgesLeaf (kindOf k) a r
   unfolding numbered
-  judges-char k l h e = in-kinds (λ x. JudgesLeaf x a r) 11 1 refl (leaf char _ _ e refl & end) k l (omega arith)
+  judges-char k q e = rw q (leaf char _ _ e refl)
 
   -- the k-th of six
   pub judges-signed : (k : ℕ) → 2 ≤ k → k ≤ 4 → r ≡ isWord (signAt (k - 2)) (bits (widthAt (k - 2))) a → JudgesLeaf (kindOf k) a r
@@ -129,21 +129,21 @@ module _ {n a : ℕ} {r : Bool} where
   inner : (k : Kind) (t : Bool) (s : List ℕ) → r ≡ t → ((pool : List ℕ) → headBytes k n pool a 0 ≡ single t 0 s) → Judges k n a r
   inner k t s e f = record { at = λ pool. e ∙ some-single t s ∙ ap isSome (sym (f pool)) }
 
-  pub judges-option : (k : ℕ) → 15 ≤ k → k < 16 → r ≡ leb a 1 → Judges (kindOf k) n a r
+  pub judges-option : (k : ℕ) → k ≡ 15 → r ≡ leb a 1 → Judges (kindOf k) n a r
   unfolding numbered
-  judges-option k l h e = in-kinds (λ x. Judges x n a r) 15 1 refl (inner option _ _ e (λ pool. refl) & end) k l (omega arith)
+  judges-option k q e = rw q (inner option _ _ e (λ pool. refl))
 
   pub judges-count : (k : ℕ) → 16 ≤ k → k < 18 → r ≡ isWord unsigned 64 a → Judges (kindOf k) n a r
   unfolding numbered
   judges-count k l h e = in-kinds (λ x. Judges x n a r) 16 2 refl (inner sequence _ _ e (λ pool. refl) & inner map _ _ e (λ pool. refl) & end) k l (omega arith)
 
-  pub judges-struct : (k : ℕ) → 18 ≤ k → k < 19 → r ≡ eqb a 0 → Judges (kindOf k) n a r
+  pub judges-struct : (k : ℕ) → k ≡ 18 → r ≡ eqb a 0 → Judges (kindOf k) n a r
   unfolding numbered
-  judges-struct k l h e = in-kinds (λ x. Judges x n a r) 18 1 refl (inner struct _ _ e (λ pool. refl) & end) k l (omega arith)
+  judges-struct k q e = rw q (inner struct _ _ e (λ pool. refl))
 
-  pub judges-enum : (k : ℕ) → 19 ≤ k → k < 20 → r ≡ both (ltb a n) (isWord unsigned 32 a) → Judges (kindOf k) n a r
+  pub judges-enum : (k : ℕ) → k ≡ 19 → r ≡ both (ltb a n) (isWord unsigned 32 a) → Judges (kindOf k) n a r
   unfolding numbered
-  judges-enum k l h e = in-kinds (λ x. Judges x n a r) 19 1 refl (inner enum _ _ e (λ pool. refl) & end) k l (omega arith)
+  judges-enum k q e = rw q (inner enum _ _ e (λ pool. refl))
 
 pub is-known : (n a : ℕ) (t : Bool) → a < n → t ≡ both (ltb a n) t
 unfolding both

@@ -108,13 +108,13 @@ module _ {a u : ℕ} {out : List ℕ} {r : ℕ} {after : List ℕ} where
   spells-low-byte k h p =
       in-kinds (λ x. Spells x a u out r after) 0 2 refl (flag (plain bool) (λ n pool b. refl) p & bytes (plain i8) _ _ (λ n pool b. refl) p & end) k (omega arith) (omega arith)
 
-  pub spells-u8 : (k : ℕ) → 5 ≤ k → k < 6 → Puts (a % 256 ∷ []) u out r after → Spells (kindOf k) a u out r after
+  pub spells-u8 : (k : ℕ) → k ≡ 5 → Puts (a % 256 ∷ []) u out r after → Spells (kindOf k) a u out r after
   unfolding numbered littleBytes
-  spells-u8 k l h p = in-kinds (λ x. Spells x a u out r after) 5 1 refl (bytes (plain u8) _ _ (λ n pool b. refl) p & end) k l (omega arith)
+  spells-u8 k e p = rw e (bytes (plain u8) _ _ (λ n pool b. refl) p)
 
-  pub spells-option : (k : ℕ) → 15 ≤ k → k < 16 → Puts (a % 256 ∷ []) u out r after → Spells (kindOf k) a u out r after
+  pub spells-option : (k : ℕ) → k ≡ 15 → Puts (a % 256 ∷ []) u out r after → Spells (kindOf k) a u out r after
   unfolding numbered
-  spells-option k l h p = in-kinds (λ x. Spells x a u out r after) 15 1 refl (flag option (λ n pool b. refl) p & end) k l (omega arith)
+  spells-option k e p = rw e (flag option (λ n pool b. refl) p)
 
   -- varints
   pub spells-signed : (k : ℕ) → 2 ≤ k → k ≤ 4 → Puts (shortest (zigzag a)) u out r after → Spells (kindOf k) a u out r after
@@ -134,13 +134,13 @@ module _ {a u : ℕ} {out : List ℕ} {r : ℕ} {after : List ℕ} where
       (λ hi. in-kinds (λ x. Spells x a u out r after) 19 1 refl (bytes enum _ _ (λ n pool b. refl) p & end) k (omega arith) (omega arith))
 
   -- fixed size
-  pub spells-f32 : (k : ℕ) → 9 ≤ k → k < 10 → Puts (inOrder le (littleBytes (size (widthAt 4)) a)) u out r after → Spells (kindOf k) a u out r after
+  pub spells-f32 : (k : ℕ) → k ≡ 9 → Puts (inOrder le (littleBytes (size (widthAt 4)) a)) u out r after → Spells (kindOf k) a u out r after
   unfolding numbered widthAt pick size inOrder
-  spells-f32 k l h p = in-kinds (λ x. Spells x a u out r after) 9 1 refl (bytes (plain f32) _ _ (λ n pool b. refl) p & end) k l (omega arith)
+  spells-f32 k e p = rw e (bytes (plain f32) _ _ (λ n pool b. refl) p)
 
-  pub spells-f64 : (k : ℕ) → 10 ≤ k → k < 11 → Puts (inOrder le (littleBytes (size (widthAt 5)) a)) u out r after → Spells (kindOf k) a u out r after
+  pub spells-f64 : (k : ℕ) → k ≡ 10 → Puts (inOrder le (littleBytes (size (widthAt 5)) a)) u out r after → Spells (kindOf k) a u out r after
   unfolding numbered widthAt pick size inOrder
-  spells-f64 k l h p = in-kinds (λ x. Spells x a u out r after) 10 1 refl (bytes (plain f64) _ _ (λ n pool b. refl) p & end) k l (omega arith)
+  spells-f64 k e p = rw e (bytes (plain f64) _ _ (λ n pool b. refl) p)
 
   pub spells-little : (k : ℕ) → 20 ≤ k → k ≤ 25 → Puts (inOrder le (littleBytes (size (widthAt (k - 20))) a)) u out r after → Spells (kindOf k) a u out r after
   unfolding headBytes leafBytes
@@ -151,24 +151,24 @@ module _ {a u : ℕ} {out : List ℕ} {r : ℕ} {after : List ℕ} where
   spells-big k l h p = rw (big-sixth k l h) (bytes (plain (fixed be _ _)) _ _ (λ n pool b. refl) p)
 
   -- no bytes
-  pub spells-struct : (k : ℕ) → 18 ≤ k → k < 19 → Puts [] u out r after → Spells (kindOf k) a u out r after
+  pub spells-struct : (k : ℕ) → k ≡ 18 → Puts [] u out r after → Spells (kindOf k) a u out r after
   unfolding numbered
-  spells-struct k l h p = in-kinds (λ x. Spells x a u out r after) 18 1 refl (bytes struct _ _ (λ n pool b. refl) p & end) k l (omega arith)
+  spells-struct k e p = rw e (bytes struct _ _ (λ n pool b. refl) p)
 
-  pub spells-unit : (k : ℕ) → 14 ≤ k → k < 15 → Puts [] u out r after → Spells (kindOf k) a u out r after
+  pub spells-unit : (k : ℕ) → k ≡ 14 → Puts [] u out r after → Spells (kindOf k) a u out r after
   unfolding numbered
-  spells-unit k l h p = in-kinds (λ x. Spells x a u out r after) 14 1 refl (bytes (plain unit) _ _ (λ n pool b. refl) p & end) k l (omega arith)
+  spells-unit k e p = rw e (bytes (plain unit) _ _ (λ n pool b. refl) p)
 
-  pub spells-char : (k : ℕ) → 11 ≤ k → k < 12 → Puts (withCount (charBytes a)) u out r after → Spells (kindOf k) a u out r after
+  pub spells-char : (k : ℕ) → k ≡ 11 → Puts (withCount (charBytes a)) u out r after → Spells (kindOf k) a u out r after
   unfolding numbered
-  spells-char k l h p = in-kinds (λ x. Spells x a u out r after) 11 1 refl (bytes (plain char) _ _ (λ n pool b. refl) p & end) k l (omega arith)
+  spells-char k e p = rw e (bytes (plain char) _ _ (λ n pool b. refl) p)
 
 -- ---- chars, texts and bytes, of which the words say more
 
 module _ (pool : List ℕ) (a b : ℕ) where
-  pub fits-char : (k : ℕ) → 11 ≤ k → k < 12 → Fits (kindOf k) pool a b → isChar a ≡ true
+  pub fits-char : (k : ℕ) → k ≡ 11 → Fits (kindOf k) pool a b → isChar a ≡ true
   unfolding numbered
-  fits-char k l h f = in-kinds (λ x. Fits x pool a b → isChar a ≡ true) 11 1 refl ((λ g. single-some _ b _ (g .is) .0) & end) k l (omega arith) f
+  fits-char k e f = single-some _ b _ (rw e at f .is) .0
 
   inside : (c : Content) → Fits (pooled c) pool a b → a + b ≤ length pool
   unfolding headBytes

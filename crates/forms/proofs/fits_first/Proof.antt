@@ -14,13 +14,13 @@ is-variant-requires : tie.Need-is-variant-requires
 is-variant-requires c κs = search needs
 
 returns : tie.Need-returns
-returns c = judges-option _ (omega arith) (omega arith) refl
+returns c = judges-option _ (c .match .keys1) refl
 
 returns-2 : tie.Need-returns-2
-returns-2 c = judges-struct _ (omega arith) (omega arith) refl
+returns-2 c = judges-struct _ (c .match .keys2) refl
 
 returns-3 : tie.Need-returns-3
-returns-3 c = judges-enum _ (omega arith) (omega arith) (c .is-variant .ensures)
+returns-3 c = judges-enum _ (c .before .match .keys3) (c .is-variant .ensures)
 
 returns-4 : tie.Need-returns-4
 unfolding isWord

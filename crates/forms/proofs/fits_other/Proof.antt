@@ -26,14 +26,14 @@ is-sixth-requires-2 c κs = search needs
 
 returns : tie.Need-returns
 unfolding isWord widthOf pick
-returns c = judges-f32 _ (omega arith) (omega arith) (c .is-unsigned .ensures)
+returns c = judges-f32 _ (c .before .match .keys1) (c .is-unsigned .ensures)
 
 returns-2 : tie.Need-returns-2
 unfolding isWord
-returns-2 c = let a = c .before .args in judges-f64 (a .number) (omega arith) (omega arith) (sym (lt-ltb (a .first) (2 ^ 64) (omega arith)))
+returns-2 c = let a = c .before .args in judges-f64 (a .number) (c .match .keys2) (sym (lt-ltb (a .first) (2 ^ 64) (omega arith)))
 
 returns-3 : tie.Need-returns-3
-returns-3 c = judges-char (c .before .before .args .number) (omega arith) (omega arith) (c .is-char .ensures)
+returns-3 c = judges-char _ (c .before .match .keys3) (c .is-char .ensures)
 
 returns-4 : tie.Need-returns-4
 returns-4 c = judges-unit (c .before .before .before .args .number) (omega arith) (omega arith) (c .before .before .before .pre .1 .1) refl

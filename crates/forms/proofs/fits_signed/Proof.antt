@@ -20,11 +20,11 @@ is-sixth-requires : tie.Need-is-sixth-requires
 is-sixth-requires c κs = search needs
 
 returns : tie.Need-returns
-returns c = judges-bool _ (omega arith) refl
+returns c = judges-bool _ (c .match .keys1) refl
 
 returns-2 : tie.Need-returns-2
 unfolding isWord widthOf pick
-returns-2 c = judges-i8 _ (omega arith) (omega arith) (c .is-signed .ensures)
+returns-2 c = judges-i8 _ (c .before .match .keys2) (c .is-signed .ensures)
 
 returns-3 : tie.Need-returns-3
 returns-3 c = judges-signed _ (omega arith) (omega arith) (c .is-sixth .ensures)

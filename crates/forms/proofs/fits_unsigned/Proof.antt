@@ -20,7 +20,7 @@ is-sixth-requires c κs = search needs
 
 returns : tie.Need-returns
 unfolding isWord widthOf pick
-returns c = judges-u8 _ (omega arith) (omega arith) (c .is-unsigned .ensures)
+returns c = judges-u8 _ (c .before .match .keys1) (c .is-unsigned .ensures)
 
 returns-2 : tie.Need-returns-2
 returns-2 c = judges-unsigned _ (omega arith) (omega arith) (c .is-sixth .ensures)

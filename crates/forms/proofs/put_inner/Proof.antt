@@ -20,10 +20,10 @@ same-length : tie.Need-same-length
 same-length c = search needs
 
 returns : tie.Need-returns
-returns c = spells-option _ (omega arith) (omega arith) (c .before .before .put-byte .ensures)
+returns c = spells-option _ (c .before .before .before .before .match .keys1) (c .before .before .put-byte .ensures)
 
 returns-2 : tie.Need-returns-2
-returns-2 c = spells-struct _ (omega arith) (omega arith) (puts-none _ _ (omega arith))
+returns-2 c = spells-struct _ (c .match .keys2) (puts-none _ _ (omega arith))
 
 same-length-2 : tie.Need-same-length-2
 same-length-2 c = search needs

@@ -15,7 +15,7 @@ put-sixth-requires-2 : tie.Need-put-sixth-requires-2
 put-sixth-requires-2 c κs = search needs
 
 put-char-requires : tie.Need-put-char-requires
-put-char-requires c κs = fits-char _ _ _ _ (omega arith) (omega arith) (c .before .before .before .before .pre .1 .1)
+put-char-requires c κs = fits-char _ _ _ _ (c .before .match .keys3) (c .before .before .before .before .pre .1 .1)
 
 put-part-requires : tie.Need-put-part-requires
 put-part-requires c κs = fits-part _ _ _ _ (omega arith) (omega arith) (c .before .before .before .before .before .before .pre .1 .1)
@@ -31,23 +31,23 @@ same-length c = search needs
 
 returns : tie.Need-returns
 unfolding orderOf
-returns c = spells-f32 (c .before .before .before .before .before .before .before .args .number) (omega arith) (omega arith) (c .before .before .put-sixth .ensures) .with _ _
+returns c = spells-f32 _ (c .before .before .before .before .match .keys1) (c .before .before .put-sixth .ensures) .with _ _
 
 same-length-2 : tie.Need-same-length-2
 same-length-2 c = search needs
 
 returns-2 : tie.Need-returns-2
 unfolding orderOf
-returns-2 c = spells-f64 (c .before .before .before .before .before .before .before .args .number) (omega arith) (omega arith) (c .before .before .put-sixth2 .ensures) .with _ _
+returns-2 c = spells-f64 _ (c .before .before .before .before .match .keys2) (c .before .before .put-sixth2 .ensures) .with _ _
 
 same-length-3 : tie.Need-same-length-3
 same-length-3 c = search needs
 
 returns-3 : tie.Need-returns-3
-returns-3 c = spells-char (c .before .before .before .before .before .before .before .args .number) (omega arith) (omega arith) (c .before .before .put-char .ensures) .with _ _
+returns-3 c = spells-char _ (c .before .before .before .before .match .keys3) (c .before .before .put-char .ensures) .with _ _
 
 returns-4 : tie.Need-returns-4
-returns-4 c = let s = c .before .before .before in spells-unit (s .args .number) (omega arith) (omega arith) (puts-none (s .args .used) (s .args .out .now) (omega arith)) .with _ _
+returns-4 c = let s = c .before .before .before in spells-unit (s .args .number) (c .match .keys4) (puts-none (s .args .used) (s .args .out .now) (omega arith)) .with _ _
 
 same-length-4 : tie.Need-same-length-4
 same-length-4 c = search needs

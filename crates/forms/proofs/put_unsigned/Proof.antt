@@ -19,7 +19,7 @@ same-length : tie.Need-same-length
 same-length c = search needs
 
 returns : tie.Need-returns
-returns c = spells-u8 _ (omega arith) (omega arith) (c .before .before .put-byte .ensures)
+returns c = spells-u8 _ (c .before .before .before .before .match .keys1) (c .before .before .put-byte .ensures)
 
 same-length-2 : tie.Need-same-length-2
 same-length-2 c = search needs

@@ -2,19 +2,19 @@
 -- Assumes nothing.
 use mathlib.Core.Path.{_≡_, refl}
 use mathlib.Core.List.{List}
-use Prim.Native.Nat.{ℕ, _+_, _^_, _<_, _≤_}
+use Prim.Native.Nat.{ℕ, _+_, _^_, _<_}
 use native.Mathlib.Omega.{arith}
 use lib.ListN.{length}
 use Rattle.wire.specs.declared.Layout.{Layout}
 use Rattle.wire.specs.declared.Checked.the-variants.{Good}
 use Rattle.wire.specs.Table.{kindOf, nodeAt, recordOf, check}
 use Rattle.laws.specs.Tables.{GoodTable}
+use Rattle.forms.specs.Own.{IsLeaf, Fitting, Spells}
 use Rattle.writer.specs.declared.Put.the-variants.{Done}
 use Rattle.writer.specs.declared.Way.{Way}
 use Rattle.writer.specs.declared.Ahead.{Ahead}
 use Rattle.writer.specs.declared.Begun.{Begun}
 use Rattle.writer.specs.declared.Begun.the-variants.{At}
-use Rattle.writer.specs.Own.{IsLeaf, Fitting, Spells}
 use Rattle.writer.specs.Steps.{entries, writeNode, writeRow, writeRounds, Gives, Flat, Begins, Leads, Whole}
 use Rattle.writer.proofs.Entries.{entryAt}
 use Rattle.writer.proofs.Going.{going-begin, going-end, first-done}

@@ -3,13 +3,18 @@
 use mathlib.Core.Path.{_≡_, refl, sym, ap, _∙_}
 use mathlib.Core.Bool.{Bool}
 use mathlib.Core.List.{List, [], _++_, append-nil, append-assoc}
-use Prim.Native.Nat.{ℕ, _^_, _<_}
+use Prim.Native.Nat.{ℕ, _*_, _^_, _<_}
+use native.Mathlib.Omega.{arith}
 use lib.ListN.{length}
 use Rattle.wire.specs.Writing.{Left, Wrote, wrote, misfit, after, writeNothing, writeOn, writeThen}
+use Rattle.forms.proofs.Counting.{puts-none, puts-both}
 use Rattle.writer.specs.declared.Put.{Put}
 use Rattle.writer.specs.declared.Put.the-variants.{Done, Misfit}
 use Rattle.writer.specs.Steps.{entries, Sure, Going, GivesBy, Gives}
-use Rattle.writer.proofs.Counting.{puts-none, puts-both}
+
+-- a slice of bytes, as its room is told: the search of `omega` over a place's facts takes longer
+pub few-bytes : (n : ℕ) → n * 1 < 2 ^ 63 → n < 2 ^ 63
+few-bytes n h = omega arith
 
 -- ---- bytes in front
 

@@ -1,6 +1,6 @@
 -- An entry is a misfit, or its own bytes and then what follows: a leaf's, which nothing follows, and that of a good table's node, which a stretch follows.
 -- Assumes nothing.
-use mathlib.Core.Path.{_≡_, refl, ap, _∙_}
+use mathlib.Core.Path.{_≡_, refl, sym, ap, _∙_}
 use mathlib.Core.Bool.{Bool, true, false}
 use mathlib.Core.List.{List}
 use mathlib.Core.Option.{Option, some, none}
@@ -22,10 +22,10 @@ use Rattle.laws.proofs.EachKind.{low-kinds, high-kinds}
 use Rattle.table.specs.declared.Stretch.{Stretch}
 use Rattle.table.specs.Parts.{followed, Falls}
 use Rattle.table.proofs.Stretches.{falls-followed, node-falls, along-followed}
+use Rattle.forms.specs.Bytes.{Puts}
+use Rattle.forms.specs.Own.{isSome, IsLeaf, Known, Lets, Fits, SpellsEntry}
 use Rattle.writer.specs.declared.Entered.{Entered}
 use Rattle.writer.specs.declared.Entered.the-variants.{On, Misfit}
-use Rattle.writer.specs.Bytes.{Puts}
-use Rattle.writer.specs.Own.{isSome, IsLeaf, Known, Fits, SpellsEntry}
 use Rattle.writer.specs.Steps.{entries, writeLeaf, writeNode, writeRow, headed, writeRounds, Sure, Going, Goes, Enters}
 use Rattle.writer.proofs.Entries.{entryAt, entries-none, entries-more}
 use Rattle.writer.proofs.Going.{then-nothing}
@@ -120,6 +120,17 @@ module _ {s : List ℕ} {l : Layout} {i : ℕ} (good : GoodTable s l) (below : i
           e
       unfolding writeNode write
       node-starts = rw (walk-node (writing pool) (good .node-good i below) (entries ws e), ek, en) (item-starts _ _ pool _ ws e more)
+
+      -- as the code asks it, which passes over what was judged
+      module _ {judged r : Bool} (sure : Sure judged (writeNode s l pool i (entries ws e))) (lets : Lets judged (kindOf k) n (entryAt ws e .first) (entryAt ws e .second) r) where
+        asked : r ≡ isSome (headBytes (kindOf k) n pool (entryAt ws e .first) (entryAt ws e .second))
+        asked = lets .at pool (start-known node-starts sure)
+
+        pub node-has : r ≡ true → isSome (headBytes (kindOf k) n pool (entryAt ws e .first) (entryAt ws e .second)) ≡ true
+        node-has h = sym asked ∙ h
+
+        pub node-lacks : r ≡ false → writeNode s l pool i (entries ws e) ≡ misfit e
+        node-lacks h = start-lacks node-starts (sym asked ∙ h)
 
       module _ (yes : isSome (headBytes (kindOf k) n pool (entryAt ws e .first) (entryAt ws e .second)) ≡ true) where
         pub node-follows : isKnown (following (kindOf k) (entryAt ws e .first)) n ≡ true

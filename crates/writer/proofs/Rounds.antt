@@ -21,10 +21,11 @@ use Rattle.laws.proofs.Own.{single-yes, single-no, single-second}
 use Rattle.laws.proofs.Children.{times-none, times-more, row-none, row-more, row-once, walk-node}
 use Rattle.table.specs.Parts.{Falls}
 use Rattle.table.proofs.Stretches.{falls-first, node-falls, root-number}
+use Rattle.writer.specs.declared.Put.{Put}
 use Rattle.writer.specs.declared.Way.{Way}
 use Rattle.writer.specs.declared.Begun.{Begun}
 use Rattle.writer.specs.declared.Begun.the-variants.{At, Misfit}
-use Rattle.writer.specs.Steps.{entries, writeNode, writeRow, headed, writeRounds, Flat, Begins}
+use Rattle.writer.specs.Steps.{entries, writeNode, writeRow, headed, writeRounds, Sure, Gives, Flat, Begins}
 use Rattle.writer.proofs.Entries.{entryAt, entries-none}
 use Rattle.writer.proofs.Going.{First, after-none, then-nothing}
 use Rattle.writer.proofs.Nodes.{Starts, item-starts}
@@ -69,6 +70,14 @@ pub flat-rounds : {s : List ℕ} {l : Layout} {i from n : ℕ} {way : Way} → F
     → writeRounds s l pool c false from n x ≡ writeRounds s l pool c (way .headed) (way .from) (way .width) x
 unfolding writeRounds headed
 flat-rounds f pool c x = ap (λ g. times (writing pool) c g x) (f .same pool)
+
+module _ {s : List ℕ} {l : Layout} {i from n : ℕ} {way : Way} (f : Flat s l i from n way) (pool : List ℕ) (c : ℕ) (x : Left) where
+  pub flat-sure : {judged : Bool} → Sure judged (writeRounds s l pool c false from n x) → Sure judged (writeRounds s l pool c (way .headed) (way .from) (way .width) x)
+  flat-sure h = rw (← (flat-rounds f pool c x)) h
+
+  pub flat-gives : {ws : List ℕ} {u : ℕ} {before : List ℕ} {r : Put} {out : List ℕ} → Gives (writeRounds s l pool c (way .headed) (way .from) (way .width) x) ws u before r out
+      → Gives (writeRounds s l pool c false from n x) ws u before r out
+  flat-gives h = rw (flat-rounds f pool c x) h
 
 -- the whole shape is the root's node, once
 pub root-once : (s : List ℕ) {l : Layout} → check s ≡ Good l → (at : ℕ) → at + 4 ≡ length s → (pool : List ℕ) (x : Left)

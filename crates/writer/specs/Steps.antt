@@ -15,6 +15,7 @@ use Rattle.laws.specs.Steps.{row}
 use Rattle.laws.specs.Tables.{nodeShape}
 use Rattle.table.specs.declared.Stretch.{Stretch}
 use Rattle.table.specs.Parts.{Falls}
+use Rattle.forms.specs.Bytes.{Puts}
 use Rattle.writer.specs.declared.Put.{Put}
 use Rattle.writer.specs.declared.Put.the-variants.{Done, Misfit}
 use Rattle.writer.specs.declared.Entered.{Entered}
@@ -23,7 +24,6 @@ use Rattle.writer.specs.declared.Way.{Way}
 use Rattle.writer.specs.declared.Ahead.{Ahead}
 use Rattle.writer.specs.declared.Begun.{Begun}
 use Rattle.writer.specs.declared.Begun.the-variants as begun
-use Rattle.writer.specs.Bytes.{Puts}
 
 -- a value list's entries from the i-th on
 unfoldable pub entries : List ℕ → ℕ → Left

@@ -13,11 +13,11 @@ use Rattle.table.specs.Parts.{Falls}
 use Rattle.table.proofs.Stretches.{falls-first, falls-next}
 use Rattle.table.proofs.kind_at.Reads as kind-at-reads
 use Rattle.table.proofs.u16_at.Reads as u16-at-reads
-use Rattle.writer.specs.Own.{IsLeaf}
+use Rattle.forms.specs.Own.{IsLeaf}
 use Rattle.writer.specs.Steps.{entries, writeRow, writeRounds, Going}
-use Rattle.writer.proofs.Going.{going-begin, no-going-on, gives-whole, sure-rest, sure-first, first-misfit, first-done, going-end, gives-misfit}
+use Rattle.writer.proofs.Going.{few-bytes, going-begin, no-going-on, gives-whole, sure-rest, sure-first, first-misfit, first-done, going-end, gives-misfit}
 use Rattle.writer.proofs.Nodes.{node-end, node-number, node-leaf, entered-on, entered-misfit}
-use Rattle.writer.proofs.Rounds.{stretch-none, stretch-first, rounds-none, rounds-first, rounds-misfit, flat-rounds}
+use Rattle.writer.proofs.Rounds.{stretch-none, stretch-first, rounds-none, rounds-first, rounds-misfit, flat-sure, flat-gives}
 use Rattle.writer.proofs.begin.Reads as begin-reads
 use Rattle.writer.proofs.enter.Reads as enter-reads
 use Rattle.writer.proofs.flat.Reads as flat-reads
@@ -49,6 +49,20 @@ abbrev μ-rounds : Measures 4 put-rounds-kinds.ps ℕ
 abbrev μ-stretch : Measures 4 put-stretch-kinds.ps ℕ
 μ-stretch κs a = a .1 .1 .0 * 4
 
+-- each call's measure is below t, its caller's
+module _ (n : ℕ) {t : ℕ} where
+  item-inner : n * 4 + 3 ≡ t → n * 4 + 2 < t
+  item-inner e = omega arith
+
+  inner-rounds : n * 4 + 2 ≡ t → n * 4 + 1 < t
+  inner-rounds e = omega arith
+
+  rounds-stretch : n * 4 + 1 ≡ t → n * 4 < t
+  rounds-stretch e = omega arith
+
+  stretch-item : {c m : ℕ} → c ≡ m → m < n → n * 4 ≡ t → c * 4 + 3 < t
+  stretch-item q h e = omega arith
+
 -- ---- an item
 
 module _ (t : ℕ) where
@@ -64,7 +78,7 @@ module _ (t : ℕ) where
   item-inner-requires : put-item-lts.Need-inner-item-requires item-calls item-at put-item.Post
   item-inner-requires c κs =
       let s = c .before .before .before .before .before .before .before .before .before in
-      (omega (arith, s .pre .0), (s .pre .1 .0, (s .pre .1 .1 .0, (c .before .before .before .kind-at .ensures, ((omega arith, omega arith), (c .before .before .before .before .if1 .left, s .pre .1 .1 .1))))))
+      (item-inner _ (s .pre .0), (s .pre .1 .0, (s .pre .1 .1 .0, (c .before .before .before .kind-at .ensures, ((c .before .before .if2 .left, omega arith), (c .before .before .before .before .if1 .left, s .pre .1 .1 .1))))))
 
   item-returns-2 : put-item-lts.Need-returns-2 item-calls item-at put-item.Post
   item-returns-2 c = c .before .before .before .before .inner-item .ensures
@@ -114,14 +128,14 @@ module _ (t : ℕ) where
   inner-put-rounds-requires : inner-item-lts.Need-put-rounds-requires inner-calls inner-at inner-item.Post
   inner-put-rounds-requires c κs =
       let s = c .before .before .before .before .before .before .before .before .before .before .before .before .before .before .before in
-      (omega (arith, s .pre .0), (s .pre .1 .0, (omega (arith, s .pre .1 .1 .0), (c .before .flat .ensures .falls, rw (← (flat-rounds (c .before .flat .ensures) _ _ _)) (sure-rest (omega arith) ((entered-on (c .before .before .before .before .before .before .before .before .before .enter .ensures) (c .before .before .before .before .before .entered .given .1)) .going) (s .pre .1 .1 .1 .1 .1 .1))))))
+      (inner-rounds _ (s .pre .0), (s .pre .1 .0, (omega (arith, s .pre .1 .1 .0), (c .before .flat .ensures .falls, flat-sure (c .before .flat .ensures) _ _ _ (sure-rest (few-bytes _ (s .good .1 .1 .1 .1 .1 .1 .1 .0 .1)) ((entered-on (c .before .before .before .before .before .before .before .before .before .enter .ensures) (c .before .before .before .before .before .entered .given .1)) .going) (s .pre .1 .1 .1 .1 .1 .1))))))
 
   inner-returns-2 : inner-item-lts.Need-returns-2 inner-calls inner-at inner-item.Post
   inner-returns-2 c = gives-misfit (entered-misfit (c .before .before .before .before .enter .ensures) (c .enum-told .given .1))
 
   inner-returns-3 : inner-item-lts.Need-returns-3 inner-calls inner-at inner-item.Post
   inner-returns-3 c =
-      gives-whole (omega (arith, c .before .before .before .before .before .before .before .before .before .before .before .before .before .before .before .before .before .before .good .1 .1 .1 .1 .1 .1 .1 .0 .1)) ((entered-on (c .before .before .before .before .before .before .before .before .before .before .before .before .enter .ensures) (c .before .before .before .before .before .before .before .before .entered .given .1)) .going) (rw (flat-rounds (c .before .before .before .before .flat .ensures) _ _ _) (c .before .before .put-rounds .ensures))
+      gives-whole (few-bytes _ (c .before .before .before .before .before .before .before .before .before .before .before .before .before .before .before .before .before .before .good .1 .1 .1 .1 .1 .1 .1 .0 .1)) ((entered-on (c .before .before .before .before .before .before .before .before .before .before .before .before .enter .ensures) (c .before .before .before .before .before .before .before .before .entered .given .1)) .going) (flat-gives (c .before .before .before .before .flat .ensures) _ _ _ (c .before .before .put-rounds .ensures))
 
 -- ---- the rounds
 
@@ -141,19 +155,19 @@ module _ (t : ℕ) where
   rounds-calls = (begin-reads.Asked, begin-reads.Learnt, and 4 put-stretch-kinds.ps (falls 4 put-stretch-kinds.ps _<_ μ-stretch t) put-stretch.Pre, put-stretch.Post)
 
   rounds-returns : put-rounds-lts.Need-returns rounds-calls rounds-at put-rounds.Post rounds-Inv rounds-μ
-  rounds-returns c = gives-misfit (no-going-on (omega arith) (c .before .before .before .before .loop .inv .0) (rounds-misfit _ _ _ _ _ _ _ (c .before .before .begin .ensures) (c .before .before .before .loop-test .taken) (c .enum-told .given .1)))
+  rounds-returns c = gives-misfit (no-going-on (few-bytes _ (c .before .before .before .before .before .before .before .before .before .good .1 .1 .1 .1 .1 .1 .1 .1 .1 .1 .0 .1)) (c .before .before .before .before .loop .inv .0) (rounds-misfit _ _ _ _ _ _ _ (c .before .before .begin .ensures) (c .before .before .before .loop-test .taken) (c .enum-told .given .1)))
 
   rounds-put-stretch-requires : put-rounds-lts.Need-put-stretch-requires rounds-calls rounds-at put-rounds.Post rounds-Inv rounds-μ
   rounds-put-stretch-requires c κs =
       let s = c .before .before .before .before .before .before .before .before .before .before .before in
-      (omega (arith, s .pre .0), (s .pre .1 .0, (s .pre .1 .1 .0, (s .pre .1 .1 .1 .0, sure-first (omega arith) (c .before .before .before .before .before .before .loop .inv .0) (rounds-first _ _ _ _ _ _ _ (c .before .before .before .before .begin .ensures) (c .before .before .before .before .before .loop-test .taken) (c .before .before .begun .given .1)) (s .pre .1 .1 .1 .1)))))
+      (rounds-stretch _ (s .pre .0), (s .pre .1 .0, (s .pre .1 .1 .0, (s .pre .1 .1 .1 .0, sure-first (few-bytes _ (s .good .1 .1 .1 .1 .1 .1 .1 .1 .1 .1 .0 .1)) (c .before .before .before .before .before .before .loop .inv .0) (rounds-first _ _ _ _ _ _ _ (c .before .before .before .before .begin .ensures) (c .before .before .before .before .before .loop-test .taken) (c .before .before .begun .given .1)) (s .pre .1 .1 .1 .1)))))
 
   rounds-returns-2 : put-rounds-lts.Need-returns-2 rounds-calls rounds-at put-rounds.Post rounds-Inv rounds-μ
-  rounds-returns-2 c = first-misfit (omega (arith, c .before .before .before .before .before .before .before .before .before .before .before .before .before .before .before .before .good .1 .1 .1 .1 .1 .1 .1 .1 .1 .1 .0 .1)) (c .before .before .before .before .before .before .before .before .before .before .before .loop .inv .0) (rounds-first _ _ _ _ _ _ _ (c .before .before .before .before .before .before .before .before .before .begin .ensures) (c .before .before .before .before .before .before .before .before .before .before .loop-test .taken) (c .before .before .before .before .before .before .before .begun .given .1)) (c .before .before .before .before .put-stretch .ensures) (c .enum-told2 .given .1)
+  rounds-returns-2 c = first-misfit (few-bytes _ (c .before .before .before .before .before .before .before .before .before .before .before .before .before .before .before .before .good .1 .1 .1 .1 .1 .1 .1 .1 .1 .1 .0 .1)) (c .before .before .before .before .before .before .before .before .before .before .before .loop .inv .0) (rounds-first _ _ _ _ _ _ _ (c .before .before .before .before .before .before .before .before .before .begin .ensures) (c .before .before .before .before .before .before .before .before .before .before .loop-test .taken) (c .before .before .before .before .before .before .before .begun .given .1)) (c .before .before .before .before .put-stretch .ensures) (c .enum-told2 .given .1)
 
   rounds-loop-again : put-rounds-lts.Need-loop-again rounds-calls rounds-at put-rounds.Post rounds-Inv rounds-μ
   rounds-loop-again c =
-      (first-done (omega (arith, c .before .before .before .before .before .before .before .before .before .before .before .before .before .before .before .before .before .good .1 .1 .1 .1 .1 .1 .1 .1 .1 .1 .0 .1)) (c .before .before .before .before .before .before .before .before .before .before .before .before .loop .inv .0) (rounds-first _ _ _ _ _ _ _ (c .before .before .before .before .before .before .before .before .before .before .begin .ensures) (c .before .before .before .before .before .before .before .before .before .before .before .loop-test .taken) (c .before .before .before .before .before .before .before .before .begun .given .1)) (c .before .before .before .before .before .put-stretch .ensures) (c .before .got .given .1), search needs)
+      (first-done (few-bytes _ (c .before .before .before .before .before .before .before .before .before .before .before .before .before .before .before .before .before .good .1 .1 .1 .1 .1 .1 .1 .1 .1 .1 .0 .1)) (c .before .before .before .before .before .before .before .before .before .before .before .before .loop .inv .0) (rounds-first _ _ _ _ _ _ _ (c .before .before .before .before .before .before .before .before .before .before .begin .ensures) (c .before .before .before .before .before .before .before .before .before .before .before .loop-test .taken) (c .before .before .before .before .before .before .before .before .begun .given .1)) (c .before .before .before .before .before .put-stretch .ensures) (c .before .got .given .1), search needs)
 
   rounds-returns-3 : put-rounds-lts.Need-returns-3 rounds-calls rounds-at put-rounds.Post rounds-Inv rounds-μ
   rounds-returns-3 c = going-end (c .before .loop .inv .0) (rounds-none _ _ _ _ _ _ _ _ (c .loop-test .left))
@@ -180,14 +194,14 @@ module _ (t : ℕ) where
   stretch-put-item-requires c κs =
       let s = c .before .before .before .before .before .before .before .before in
       let child = falls-first (c .before .before .before .loop .inv .1) (c .before .before .loop-test .taken) in
-      (omega (arith, s .pre .0), (s .pre .1 .0, (omega arith, sure-first (omega arith) (c .before .before .before .loop .inv .0) (stretch-first _ _ _ _ _ _ (c .before .u16-at .ensures .0) (c .before .before .loop-test .taken)) (s .pre .1 .1 .1 .1))))
+      (stretch-item _ (c .before .u16-at .ensures .0) child (s .pre .0), (s .pre .1 .0, (omega arith, sure-first (few-bytes _ (s .good .1 .1 .1 .1 .1 .1 .1 .1 .0 .1)) (c .before .before .before .loop .inv .0) (stretch-first _ _ _ _ _ _ (c .before .u16-at .ensures .0) (c .before .before .loop-test .taken)) (s .pre .1 .1 .1 .1))))
 
   stretch-returns : put-stretch-lts.Need-returns stretch-calls stretch-at put-stretch.Post stretch-Inv stretch-μ
-  stretch-returns c = first-misfit (omega arith) (c .before .before .before .before .before .before .before .before .loop .inv .0) (stretch-first _ _ _ _ _ _ (c .before .before .before .before .before .before .u16-at .ensures .0) (c .before .before .before .before .before .before .before .loop-test .taken)) (c .before .before .before .before .put-item .ensures) (c .enum-told .given .1)
+  stretch-returns c = first-misfit (few-bytes _ (c .before .before .before .before .before .before .before .before .before .before .before .before .before .good .1 .1 .1 .1 .1 .1 .1 .1 .0 .1)) (c .before .before .before .before .before .before .before .before .loop .inv .0) (stretch-first _ _ _ _ _ _ (c .before .before .before .before .before .before .u16-at .ensures .0) (c .before .before .before .before .before .before .before .loop-test .taken)) (c .before .before .before .before .put-item .ensures) (c .enum-told .given .1)
 
   stretch-loop-again : put-stretch-lts.Need-loop-again stretch-calls stretch-at put-stretch.Post stretch-Inv stretch-μ
   stretch-loop-again c = (
-    first-done (omega (arith, c .before .before .before .before .before .before .before .before .before .before .before .before .before .before .good .1 .1 .1 .1 .1 .1 .1 .1 .0 .1)) (c .before .before .before .before .before .before .before .before .before .loop .inv .0) (stretch-first _ _ _ _ _ _ (c .before .before .before .before .before .before .before .u16-at .ensures .0) (c .before .before .before .before .before .before .before .before .loop-test .taken)) (c .before .before .before .before .before .put-item .ensures) (c .before .got .given .1),
+    first-done (few-bytes _ (c .before .before .before .before .before .before .before .before .before .before .before .before .before .before .good .1 .1 .1 .1 .1 .1 .1 .1 .0 .1)) (c .before .before .before .before .before .before .before .before .before .loop .inv .0) (stretch-first _ _ _ _ _ _ (c .before .before .before .before .before .before .before .u16-at .ensures .0) (c .before .before .before .before .before .before .before .before .loop-test .taken)) (c .before .before .before .before .before .put-item .ensures) (c .before .got .given .1),
     falls-next (c .before .before .before .before .before .before .before .before .before .loop .inv .1) (c .before .before .before .before .before .before .before .before .loop-test .taken),
     search needs,
   )

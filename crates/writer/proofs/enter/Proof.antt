@@ -1,9 +1,8 @@
 -- `writer::enter` meets its contract, by the laws of an entry of a good table's node.
 -- Assumes nothing.
-use mathlib.Core.Path.{sym, _∙_}
-use native.Mathlib.Omega.{arith}
 use borrow.Author.Needs.{needs}
-use Rattle.writer.proofs.Nodes.{start-lacks, start-known, node-starts, node-follows, node-inside, node-goes}
+use Rattle.writer.proofs.Going.{few-bytes}
+use Rattle.writer.proofs.Nodes.{node-has, node-lacks, node-follows, node-inside, node-goes}
 use Rattle.writer.proofs.enter.Statement.{statement}
 use Rattle.writer.proofs.enter.Tie as tie
 
@@ -40,8 +39,8 @@ first-child-requires c κs = search needs
 follow-requires : tie.Need-follow-requires
 follow-requires c κs =
     let s = c .before .before .before .before .before .before .before .before .before .before .before .before .before .before in
-    let has = sym (c .before .before .before .before .before .before .fits-inner .ensures .at (s .args .pool .now) (start-known (node-starts (s .pre .0) (s .pre .1 .0) (s .args .pool .now) (s .args .words .now) (s .args .at) (s .pre .1 .1 .0) (c .before .before .before .before .before .before .before .child-count .ensures) (s .pre .1 .1 .1 .1 .0)) (s .pre .1 .1 .1 .1 .1))) ∙ c .before .before .before .before .before .if1 .taken in
-    (node-follows (s .pre .0) (s .pre .1 .0) (s .args .pool .now) (s .args .words .now) (s .args .at) (s .pre .1 .1 .0) (c .before .before .before .before .before .before .before .child-count .ensures) (s .pre .1 .1 .1 .1 .0) has, node-inside (s .pre .0) (s .pre .1 .0) (s .args .pool .now) (s .args .words .now) (s .args .at) (s .pre .1 .1 .0) (c .before .before .before .before .before .before .before .child-count .ensures) (s .pre .1 .1 .1 .1 .0) has (c .first-child .ensures) (omega arith))
+    let has = node-has (s .pre .0) (s .pre .1 .0) (s .args .pool .now) (s .args .words .now) (s .args .at) (s .pre .1 .1 .0) (c .before .before .before .before .before .before .before .child-count .ensures) (s .pre .1 .1 .1 .1 .0) (s .pre .1 .1 .1 .1 .1) (c .before .before .before .before .before .before .fits-inner .ensures) (c .before .before .before .before .before .if1 .taken) in
+    (node-follows (s .pre .0) (s .pre .1 .0) (s .args .pool .now) (s .args .words .now) (s .args .at) (s .pre .1 .1 .0) (c .before .before .before .before .before .before .before .child-count .ensures) (s .pre .1 .1 .1 .1 .0) has, node-inside (s .pre .0) (s .pre .1 .0) (s .args .pool .now) (s .args .words .now) (s .args .at) (s .pre .1 .1 .0) (c .before .before .before .before .before .before .before .child-count .ensures) (s .pre .1 .1 .1 .1 .0) has (c .first-child .ensures) (few-bytes _ (s .good .0 .1)))
 
 same-length : tie.Need-same-length
 same-length c = search needs
@@ -49,13 +48,13 @@ same-length c = search needs
 returns : tie.Need-returns
 returns c =
     let s = c .before .before .before .before .before .before .before .before .before .before .before .before .before .before .before in
-    let has = sym (c .before .before .before .before .before .before .before .fits-inner .ensures .at (s .args .pool .now) (start-known (node-starts (s .pre .0) (s .pre .1 .0) (s .args .pool .now) (s .args .words .now) (s .args .at) (s .pre .1 .1 .0) (c .before .before .before .before .before .before .before .before .child-count .ensures) (s .pre .1 .1 .1 .1 .0)) (s .pre .1 .1 .1 .1 .1))) ∙ c .before .before .before .before .before .before .if1 .taken in
+    let has = node-has (s .pre .0) (s .pre .1 .0) (s .args .pool .now) (s .args .words .now) (s .args .at) (s .pre .1 .1 .0) (c .before .before .before .before .before .before .before .before .child-count .ensures) (s .pre .1 .1 .1 .1 .0) (s .pre .1 .1 .1 .1 .1) (c .before .before .before .before .before .before .before .fits-inner .ensures) (c .before .before .before .before .before .before .if1 .taken) in
     record { holds = node-goes (s .pre .0) (s .pre .1 .0) (s .args .pool .now) (s .args .words .now) (s .args .at) (s .pre .1 .1 .0) (c .before .before .before .before .before .before .before .before .child-count .ensures) (s .pre .1 .1 .1 .1 .0) has (c .before .first-child .ensures) (c .before .before .before .before .put-inner .ensures .with _ _) (c .follow .ensures) }
 
 returns-2 : tie.Need-returns-2
 returns-2 c =
     let s = c .before .before .before .before .before .before .before .before .before in
-    record { holds = start-lacks (node-starts (s .pre .0) (s .pre .1 .0) (s .args .pool .now) (s .args .words .now) (s .args .at) (s .pre .1 .1 .0) (c .before .before .child-count .ensures) (s .pre .1 .1 .1 .1 .0)) (sym (c .before .fits-inner .ensures .at (s .args .pool .now) (start-known (node-starts (s .pre .0) (s .pre .1 .0) (s .args .pool .now) (s .args .words .now) (s .args .at) (s .pre .1 .1 .0) (c .before .before .child-count .ensures) (s .pre .1 .1 .1 .1 .0)) (s .pre .1 .1 .1 .1 .1))) ∙ c .if1 .left) }
+    record { holds = node-lacks (s .pre .0) (s .pre .1 .0) (s .args .pool .now) (s .args .words .now) (s .args .at) (s .pre .1 .1 .0) (c .before .before .child-count .ensures) (s .pre .1 .1 .1 .1 .0) (s .pre .1 .1 .1 .1 .1) (c .before .fits-inner .ensures) (c .if1 .left) }
 
 pub enter-spec : {M : Type 1} → statement M
 enter-spec =

@@ -7,7 +7,7 @@ use borrow.Author.Needs.{needs}
 use borrow.Author.Tests.{not-false}
 use Rattle.table.proofs.Stretches.{falls-first, falls-next}
 use Rattle.writer.specs.Steps.{Leads}
-use Rattle.writer.proofs.Going.{going-begin, first-done}
+use Rattle.writer.proofs.Going.{few-bytes, going-begin, first-done}
 use Rattle.writer.proofs.Rounds.{stretch-first}
 use Rattle.writer.proofs.Few.{ready-gives}
 use Rattle.writer.proofs.put_ints.Statement.{statement}
@@ -71,7 +71,7 @@ loop-again c =
     let low = falls-first (b .loop .inv .0 .falls) more in (
       record {
         falls = falls-next (b .loop .inv .0 .falls) more;
-        going = λ pool. first-done (omega (arith, c .before .before .before .before .before .before .before .before .before .before .before .before .before .before .before .good .1 .1 .1 .1 .1 .1 .0 .1)) (b .loop .inv .0 .going pool) (stretch-first _ _ _ _ _ _ (c .before .before .before .before .before .before .before .before .before .u16-at .ensures .0) more)
+        going = λ pool. first-done (few-bytes _ (c .before .before .before .before .before .before .before .before .before .before .before .before .before .before .before .good .1 .1 .1 .1 .1 .1 .0 .1)) (b .loop .inv .0 .going pool) (stretch-first _ _ _ _ _ _ (c .before .before .before .before .before .before .before .before .before .u16-at .ensures .0) more)
             (ready-gives (c .before .before .before .before .before .before .before .before .before .before .before .before .before .before .before .pre .0) (omega arith) (c .before .before .before .before .before .before .before .before .kind-at .ensures) (c .before .before .before .before .before .before .is-ready .ensures .is (not-false _ (c .before .before .before .before .before .if1 .left))) (c .before .before .put-ready .ensures) pool) refl;
       },
       search needs,

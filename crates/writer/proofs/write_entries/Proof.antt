@@ -5,6 +5,7 @@ use native.Mathlib.Omega.{arith}
 use lib.Seq.{length-take-le}
 use borrow.Author.Needs.{needs}
 use Rattle.laws.proofs.Splits.{not-both}
+use Rattle.writer.proofs.Going.{few-bytes}
 use Rattle.writer.proofs.Promised.{judged-misfit, judged-sure, judged-more, judged-full, judged-short, judged-done}
 use Rattle.writer.proofs.write_entries.Statement.{statement}
 use Rattle.writer.proofs.write_entries.Tie as tie
@@ -22,10 +23,10 @@ enum-known-got-2 : tie.Need-enum-known-got-2
 enum-known-got-2 c = search needs
 
 returns : tie.Need-returns
-returns c = judged-more _ (c .before .before .before .before .before .put-list .ensures) (c .before .before .got2 .given .1) (omega arith)
+returns c = judged-more _ (c .before .before .before .before .before .put-list .ensures) (c .before .before .got2 .given .1) (c .if1 .taken)
 
 returns-2 : tie.Need-returns-2
-returns-2 c = judged-full _ (c .before .before .before .before .before .before .put-list .ensures) (c .before .before .before .got2 .given .1) (omega arith) (omega arith) (omega arith)
+returns-2 c = judged-full _ (c .before .before .before .before .before .before .put-list .ensures) (c .before .before .before .got2 .given .1) (few-bytes _ (c .before .before .before .before .before .before .before .before .before .before .before .before .good .1 .1 .1 .1 .0 .1)) (c .before .if1 .left) (c .if2 .taken)
 
 array-share-prefix-small : tie.Need-array-share-prefix-small
 array-share-prefix-small c = search needs
@@ -40,7 +41,7 @@ same-length : tie.Need-same-length
 same-length c = search needs
 
 returns-3 : tie.Need-returns-3
-returns-3 c = judged-short _ (c .before .before .before .before .before .before .before .before .before .before .before .before .put-list .ensures) (c .before .before .before .before .before .before .before .before .before .got2 .given .1) (omega arith) (omega arith) (omega arith) (omega arith) (c .before .before .put-bytes .ensures)
+returns-3 c = judged-short _ (c .before .before .before .before .before .before .before .before .before .before .before .before .put-list .ensures) (c .before .before .before .before .before .before .before .before .before .got2 .given .1) (few-bytes _ (c .before .before .before .before .before .before .before .before .before .before .before .before .before .before .before .before .before .before .good .1 .1 .1 .1 .0 .1)) (c .before .before .before .before .before .before .before .if1 .left) (c .before .before .before .before .before .before .if2 .left) (omega arith) (c .before .before .put-bytes .ensures)
 
 put-list-requires-2 : tie.Need-put-list-requires-2
 put-list-requires-2 c κs = let s = c .before .before .before .before .before .before .before .before .before .before .before .before .before .before in (s .pre .0, judged-sure (s .args .out .now) (c .before .before .before .before .before .before .before .before .put-list .ensures) (c .before .before .before .before .before .got2 .given .1))
@@ -52,7 +53,7 @@ same-length-2 : tie.Need-same-length-2
 same-length-2 c = search needs
 
 returns-5 : tie.Need-returns-5
-returns-5 c = judged-done _ (c .before .before .before .before .before .before .before .before .before .before .before .put-list .ensures) (c .before .before .before .before .before .before .before .before .got2 .given .1) (omega arith) (omega arith) (omega arith) (c .before .before .put-list2 .ensures)
+returns-5 c = judged-done _ (c .before .before .before .before .before .before .before .before .before .before .before .put-list .ensures) (c .before .before .before .before .before .before .before .before .got2 .given .1) (few-bytes _ (c .before .before .before .before .before .before .before .before .before .before .before .before .before .before .before .before .before .good .1 .1 .1 .1 .0 .1)) (c .before .before .before .before .before .before .if1 .left) (c .before .before .before .before .before .if2 .left) (c .before .before .put-list2 .ensures)
 
 pub write-entries-spec : {M : Type 1} → statement M
 write-entries-spec =

@@ -4,6 +4,7 @@ use mathlib.Core.Path.{refl, sym}
 use native.Mathlib.Omega.{arith}
 use lib.Seq.{length-take-le}
 use borrow.Author.Needs.{needs}
+use Rattle.writer.proofs.Going.{few-bytes}
 use Rattle.writer.proofs.Promised.{judged-short}
 use Rattle.writer.proofs.write_few.Statement.{statement}
 use Rattle.writer.proofs.write_few.Tie as tie
@@ -27,7 +28,7 @@ same-length : tie.Need-same-length
 same-length c = search needs
 
 returns : tie.Need-returns
-returns c = judged-short _ (c .before .before .before .before .before .before .before .before .before .before .before .before .put-front .ensures .all (omega arith) _) refl (omega arith) (omega arith) (omega arith) (omega arith) (c .before .before .put-bytes .ensures)
+returns c = judged-short _ (c .before .before .before .before .before .before .before .before .before .before .before .before .put-front .ensures .all (c .before .before .before .before .before .before .before .before .before .if1 .taken) _) refl (few-bytes _ (c .before .before .before .before .before .before .before .before .before .before .before .before .before .before .before .before .before .before .good .1 .1 .1 .1 .0 .1)) (c .before .before .before .before .before .before .before .if2 .taken) (c .before .before .before .before .before .if4 .taken) (omega arith) (c .before .before .put-bytes .ensures)
 
 write-entries-requires : tie.Need-write-entries-requires
 write-entries-requires c κs = search needs

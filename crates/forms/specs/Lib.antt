@@ -1,0 +1,3 @@
+-- What the contracts of an item's own bytes cite.
+pub mod Bytes
+pub mod Own

@@ -1,11 +1,11 @@
 -- The cycle of calls: an item, one with children, the rounds of the stretch that follows it, one round. The node's number falls from an item to those of its stretch.
 -- Assumes nothing.
 use mathlib.Core.Logic.{⊎-elim}
-use mathlib.Core.Path.{_≡_, refl}
-use Prim.Native.Nat.{ℕ, _+_, _*_, _<_, _≤_}
+use mathlib.Core.Path.{_≡_, refl, _∙_}
+use Prim.Native.Nat.{ℕ, _+_, _*_, _-_, _<_, _≤_}
+use native.Mathlib.Nat.{le-refl}
 use native.Mathlib.Omega.{arith}
 use lib.ListN.{length}
-use borrow.Author.Needs.{needs}
 use borrow.Fn.Kinds.{In}
 use borrow.Fn.PlainCycle.{Measures, is, falls, and}
 use Rattle.wire.specs.Answers.{roomOf}
@@ -50,6 +50,9 @@ abbrev μ-rounds : Measures 3 read-rounds-kinds.ps ℕ
 
 abbrev μ-stretch : Measures 3 read-stretch-kinds.ps ℕ
 μ-stretch κs a = a .1 .1 .0 * 4 + 0
+
+less : {n : ℕ} → 0 < n → n - 1 < n
+less h = omega arith
 
 -- ---- an item that has children
 
@@ -169,7 +172,7 @@ module _ (t : ℕ) where
             (begun-at _ _ _ _ _ (b .before .before .before .before .begin .ensures) (rounds-first _ _ _ _ _ _ _ _ _ _ _ (b .before .before .before .before .before .before .before .loop .inv .0) (b .before .before .before .before .before .before .loop-test .taken)) (b .begun .given .1))
             _ _ (d .before .before .before .before .read-stretch .ensures) (d .got .given .1) .1,
         omega (arith, rounds-went d .kept),
-        search needs,
+        d .before .before .before .before .read-stretch .kept .1 .1 .1 .1 .1 .1 .1 .0 ∙ b .before .before .before .before .begin .kept .1 .0 ∙ b .before .before .before .before .before .before .before .loop .inv .2,
       )
 
   rounds-returns-3 : read-rounds-lts.Need-returns-3 rounds-calls rounds-at read-rounds.Post rounds-Inv rounds-μ
@@ -214,7 +217,7 @@ module _ (t : ℕ) where
         turned _ _ (node-steady _ _ _) _ _ _ _ _ (row-first _ _ _ _ _ _ _ _ _ (d .before .before .before .before .before .before .before .before .loop .inv .0) (d .before .before .before .before .before .before .before .loop-test .taken) _ (d .before .before .before .before .before .before .u16-at .ensures .0)) _ _ (d .before .before .before .before .read-item .ensures) (d .got .given .1) .1,
         falls-next (d .before .before .before .before .before .before .before .before .loop .inv .1) (d .before .before .before .before .before .before .before .loop-test .taken),
         omega (arith, stretch-went d .kept),
-        search needs,
+        d .before .before .before .before .read-item .kept .1 .1 .1 .1 .1 .0 ∙ d .before .before .before .before .before .before .before .before .loop .inv .3,
       )
 
   stretch-returns-2 : read-stretch-lts.Need-returns-2 stretch-calls stretch-at read-stretch.Post stretch-Inv stretch-μ
@@ -227,23 +230,24 @@ pub +read-inner+read-item+read-rounds+read-stretch-spec : {M : Type 1} → state
     close μ-inner μ-item μ-rounds μ-stretch
     (λ t.
     read-inner-lts.spec (inner-calls t) (inner-at t) read-inner.Post
-    (inner-enter-requires t) (λ c. search needs) (λ c. search needs)
-    (inner-add-after t) (inner-add-next t) (λ c. search needs) (inner-returns t)
-    (inner-flat-requires t) (inner-inside t) (inner-inside t) (λ c. search needs) (inner-read-rounds-requires t)
-    (λ c. search needs) (inner-returns-2 t) (λ c. search needs) (inner-returns-3 t))
+    (inner-enter-requires t) (λ c. c .match .keys1) (λ c. c .match .keys2)
+    (inner-add-after t) (inner-add-next t) (λ c. c .before .before .before .before .before .before .before .enter .kept .1 .1 .1 .1 .1 .1 .0) (inner-returns t)
+    (inner-flat-requires t) (inner-inside t) (inner-inside t) (λ c. le-refl _) (inner-read-rounds-requires t)
+    (λ c. c .before .before .before .before .before .enter .kept .1 .1 .1 .1 .1 .1 .0) (inner-returns-2 t)
+    (λ c. c .before .before .read-rounds .kept .1 .1 .1 .1 .1 .1 .1 .1 .1 .0 ∙ c .before .before .before .before .before .before .before .before .before .before .before .before .before .enter .kept .1 .1 .1 .1 .1 .1 .0) (inner-returns-3 t))
     (λ t.
     read-item-lts.spec (item-calls t) (item-at t) read-item.Post
-    (item-returns t) (λ c κs. search needs) (item-read-inner-requires t) (λ c κs. search needs)
-    (λ c. search needs) (λ c. c .before .before .read-inner .ensures) (λ c. search needs) (item-returns-3 t))
+    (item-returns t) (λ c κs. let p = c .before .before .before .before .pre .1 in (p .0, p .1 .0)) (item-read-inner-requires t) (λ c κs. (c .before .before .before .before .before .before .before .pre .1 .1 .1, c .before .before .before .if1 .left))
+    (λ c. c .before .before .read-inner .kept .1 .1 .1 .1 .1 .1 .0) (λ c. c .before .before .read-inner .ensures) (λ c. c .before .before .read-leaf .kept .1 .1 .1 .0) (item-returns-3 t))
     (λ t.
     read-rounds-lts.spec (rounds-calls t) (rounds-at t) read-rounds.Post rounds-Inv rounds-μ
-    (λ c. (refl, refl, refl)) (λ c κs. search needs) (λ c. search needs) (λ c. search needs) (λ c. search needs) (rounds-returns t)
-    (rounds-read-stretch-requires t) (λ c. search needs) (λ c. search needs) (λ c. search needs) (rounds-returns-2 t)
-    (λ c. rounds-went t (c .before) .up) (λ c. rounds-went t (c .before) .inside) (λ c. rounds-went t (c .before) .inside) (λ c. search needs)
-    (λ c. search needs) (λ c. search needs) (rounds-loop-again t) (λ c. search needs) (rounds-returns-3 t))
+    (λ c. (refl, refl, refl)) (λ c κs. tt) (λ c. c .match .keys1) (λ c. c .match .keys2) (λ c. c .before .before .before .before .begin .kept .1 .0 ∙ c .before .before .before .before .before .before .before .loop .inv .2) (rounds-returns t)
+    (rounds-read-stretch-requires t) (λ c. c .match2 .keys1) (λ c. c .match2 .keys2) (λ c. c .before .before .before .before .read-stretch .kept .1 .1 .1 .1 .1 .1 .1 .0 ∙ c .before .before .before .before .before .before .before .before .before .before .before .begin .kept .1 .0 ∙ c .before .before .before .before .before .before .before .before .before .before .before .before .before .before .loop .inv .2) (rounds-returns-2 t)
+    (λ c. rounds-went t (c .before) .up) (λ c. rounds-went t (c .before) .inside) (λ c. rounds-went t (c .before) .inside) (λ c. le-refl _)
+    (λ c. c .before .before .before .before .before .before .before .before .before .before .before .before .before .before .before .loop-test .taken) (λ c. less (c .before .before .before .before .before .before .before .before .before .before .before .before .before .before .before .loop-test .taken)) (rounds-loop-again t) (λ c. c .before .loop .inv .2) (rounds-returns-3 t))
     (λ t.
     read-stretch-lts.spec (stretch-calls t) (stretch-at t) read-stretch.Post stretch-Inv stretch-μ
     (λ c. (refl, c .before .before .before .pre .1 .1 .1 .0, refl, refl)) (λ c κs. omega arith) (stretch-read-item-requires t)
-    (λ c. search needs) (λ c. search needs) (λ c. search needs) (stretch-returns t)
-    (λ c. stretch-went t (c .before) .up) (λ c. stretch-went t (c .before) .inside) (λ c. stretch-went t (c .before) .inside) (λ c. search needs)
-    (λ c. omega arith) (λ c. search needs) (λ c. search needs) (stretch-loop-again t) (λ c. search needs) (stretch-returns-2 t))
+    (λ c. c .match .keys1) (λ c. c .match .keys2) (λ c. c .before .before .before .before .read-item .kept .1 .1 .1 .1 .1 .0 ∙ c .before .before .before .before .before .before .before .before .loop .inv .3) (stretch-returns t)
+    (λ c. stretch-went t (c .before) .up) (λ c. stretch-went t (c .before) .inside) (λ c. stretch-went t (c .before) .inside) (λ c. le-refl _)
+    (λ c. omega arith) (λ c. c .before .before .before .before .before .before .before .before .before .loop-test .taken) (λ c. less (c .before .before .before .before .before .before .before .before .before .loop-test .taken)) (stretch-loop-again t) (λ c. c .before .loop .inv .3) (stretch-returns-2 t))

@@ -17,25 +17,25 @@ abbrev μ-loop : tie.MeasureT-loop
 μ-loop old l i new m j number other olds₀ news₀ from₀ at₀ position₀ olds news from at position = olds
 
 kind-at-requires : tie.Need-kind-at-requires Inv-loop μ-loop
-kind-at-requires c κs = search needs
+kind-at-requires c κs = let pair = c .before .before .pre in (pair .old, pair .left)
 
 kind-at-requires-2 : tie.Need-kind-at-requires-2 Inv-loop μ-loop
-kind-at-requires-2 c κs = search needs
+kind-at-requires-2 c κs = let pair = c .before .before .before .pre in (pair .new, pair .right)
 
 returns : tie.Need-returns Inv-loop μ-loop
 returns c = other-kinds (c .before .before .before .before .before .pre) (c .before .before .kind-at .ensures) (c .before .kind-at2 .ensures) (c .if1 .taken)
 
 child-count-requires : tie.Need-child-count-requires Inv-loop μ-loop
-child-count-requires c κs = search needs
+child-count-requires c κs = let pair = c .before .before .before .before .before .pre in (pair .old, pair .left)
 
 child-count-requires-2 : tie.Need-child-count-requires-2 Inv-loop μ-loop
-child-count-requires-2 c κs = search needs
+child-count-requires-2 c κs = let pair = c .before .before .before .before .before .before .pre in (pair .new, pair .right)
 
 first-child-requires : tie.Need-first-child-requires Inv-loop μ-loop
-first-child-requires c κs = search needs
+first-child-requires c κs = let pair = c .before .before .before .before .before .before .before .pre in (pair .old, pair .left)
 
 first-child-requires-2 : tie.Need-first-child-requires-2 Inv-loop μ-loop
-first-child-requires-2 c κs = search needs
+first-child-requires-2 c κs = let pair = c .before .before .before .before .before .before .before .before .pre in (pair .new, pair .right)
 
 loop-holds : tie.Need-loop-holds Inv-loop μ-loop
 loop-holds c = (
@@ -64,7 +64,7 @@ returns-3 : tie.Need-returns-3 Inv-loop μ-loop
 returns-3 c = left-apart (c .before .before .before .before .before .before .loop .inv .0) (c .before .before .before .before .before .loop-test .taken) (omega arith) (c .before .before .before .u16-at .ensures .0) (c .before .before .u16-at2 .ensures .0) (c .before .pair-matches .ensures) (not-true _ (c .if3 .taken))
 
 sub-olds : tie.Need-sub-olds Inv-loop μ-loop
-sub-olds c = search needs
+sub-olds c = c .before .before .before .before .before .loop-test .taken
 
 sub-news : tie.Need-sub-news Inv-loop μ-loop
 sub-news c = search needs

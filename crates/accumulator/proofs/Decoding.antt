@@ -3,7 +3,7 @@
 use mathlib.Core.Path.{_≡_, refl, sym, ap, _∙_}
 use mathlib.Core.List.{List, [], _∷_, _++_, append-assoc, append-nil}
 use mathlib.Core.Option.{Option, none, some, Option·map}
-use Prim.Native.Nat.{ℕ, zero, suc, _+_, _-_, _≤_, _<_}
+use Prim.Native.Nat.{ℕ, zero, suc, _+_, _-_, _^_, _≤_, _<_}
 use native.Mathlib.Numerals.{add-one}
 use native.Mathlib.Omega.{arith}
 use lib.ListN.{length, take, drop, getD, replicate, length-append, length-replicate, length-drop, replicate-append-replicate, drop-of-length-le, take-append-drop}
@@ -165,6 +165,19 @@ module _ {frame message : List ℕ} {gap len i : ℕ} (h : Decoding frame gap le
     pub code-byte : code ≡ 0 → ⊥
     code-byte = clean-head code (drop (i + 1) frame) (rw turn at (h .clean))
 
+    pub some-code : 1 ≤ code
+    some-code = omega (arith, code-byte)
+
+    pub to-fits : len + gap < 2 ^ 64
+    unfolding room
+    to-fits = omega arith
+
+    pub next-inside : i + 1 ≤ length frame
+    next-inside = omega arith
+
+    pub closer : length frame - (i + 1) < length frame - i
+    closer = omega arith
+
     same-turn : told gap (h .made) (code ∷ drop (i + 1) frame) ≡ decode frame
     same-turn = rw turn at (h .same)
 
@@ -173,6 +186,16 @@ module _ {frame message : List ℕ} {gap len i : ℕ} (h : Decoding frame gap le
         sym same-turn ∙ told-short gap (h .made) (drop (i + 1) frame) code code-byte (omega (arith, length-drop (i + 1) frame))
 
     module _ (fits : code - 1 ≤ length frame - (i + 1)) where
+      pub end-inside : i + 1 + (code - 1) ≤ length frame
+      end-inside = omega arith
+
+      pub len-fits : len + gap + (code - 1) < 2 ^ 64
+      unfolding room
+      len-fits = omega arith
+
+      pub group-closer : length frame - (i + 1 + (code - 1)) < length frame - i
+      group-closer = omega arith
+
       -- the group's bytes, as the code takes them out
       abbrev part : List ℕ
       part = take (i + 1 + (code - 1) - (i + 1)) (drop (i + 1) frame)

@@ -1,10 +1,10 @@
 -- `accumulator::decode` meets its contract: group by group, what is made and what is left make the message.
 -- Assumes nothing.
 use Prim.Native.Nat.{_-_}
+use native.Mathlib.Nat.{le-add-right}
 use mathlib.Core.Path.{sym, _∙_}
 use lib.ListN.{length}
-use Rattle.wire.specs.Frames.{room}
-use Rattle.accumulator.proofs.Decoding.{Decoding, decoding-none, decoding-long, decoding-end, code-byte, decoding-short, part-long, decoding-more, decoding-empty}
+use Rattle.accumulator.proofs.Decoding.{Decoding, decoding-none, decoding-long, decoding-end, some-code, to-fits, next-inside, closer, end-inside, len-fits, group-closer, decoding-short, part-long, decoding-more, decoding-empty}
 use native.Mathlib.Omega.{arith}
 use Rattle.accumulator.proofs.decode.Statement.{statement}
 use Rattle.accumulator.proofs.decode.Tie as tie
@@ -19,20 +19,19 @@ loop-holds : tie.Need-loop-holds Inv-loop μ-loop
 loop-holds c = decoding-none (c .before .before .pre)
 
 shared-slice-read-code : tie.Need-shared-slice-read-code Inv-loop μ-loop
-shared-slice-read-code c = omega arith
+shared-slice-read-code c = c .before .loop-test .taken
 
 add-from : tie.Need-add-from Inv-loop μ-loop
 add-from c = omega arith
 
 add-to : tie.Need-add-to Inv-loop μ-loop
-unfolding room
-add-to c = omega arith
+add-to c = record { fits = to-fits (c .before .before .loop .inv) (c .before .loop-test .taken) }
 
 gap-after-requires : tie.Need-gap-after-requires Inv-loop μ-loop
 gap-after-requires c κs = tt
 
 loop-less : tie.Need-loop-less Inv-loop μ-loop
-loop-less c = omega arith
+loop-less c = closer (c .before .before .before .before .loop .inv) (c .before .before .before .loop-test .taken)
 
 loop-again : tie.Need-loop-again Inv-loop μ-loop
 loop-again c = rw (c .before .gap-after .ensures) (decoding-empty (c .before .before .before .before .loop .inv) (c .before .before .before .loop-test .taken) (c .if1 .taken))
@@ -41,10 +40,10 @@ cast-count : tie.Need-cast-count Inv-loop μ-loop
 cast-count c = omega (arith, c .before .before .shared-slice-known2 .given (c .before .before .before .before .loop .i))
 
 sub-count : tie.Need-sub-count Inv-loop μ-loop
-sub-count c = omega (arith, code-byte (c .before .before .before .before .loop .inv) (c .before .before .before .loop-test .taken))
+sub-count c = some-code (c .before .before .before .before .loop .inv) (c .before .before .before .loop-test .taken)
 
 sub-if2 : tie.Need-sub-if2 Inv-loop μ-loop
-sub-if2 c = omega arith
+sub-if2 c = next-inside (c .before .before .before .before .loop .inv) (c .before .before .before .loop-test .taken)
 
 same-length : tie.Need-same-length Inv-loop μ-loop
 same-length c = decoding-long (c .before .before .before .before .before .loop .inv) ∙ sym (decoding-long (decoding-none (c .before .before .before .before .before .before .before .before .pre)))
@@ -56,13 +55,13 @@ add-end : tie.Need-add-end Inv-loop μ-loop
 add-end c = omega arith
 
 sub-put : tie.Need-sub-put Inv-loop μ-loop
-sub-put c = omega arith
+sub-put c = le-add-right _ _
 
 part-put-start : tie.Need-part-put-start Inv-loop μ-loop
-part-put-start c = omega arith
+part-put-start c = le-add-right _ _
 
 part-put-end : tie.Need-part-put-end Inv-loop μ-loop
-part-put-end c = omega arith
+part-put-end c = end-inside (c .before .before .before .before .before .before .loop .inv) (c .before .before .before .before .before .loop-test .taken) (c .before .if2 .left)
 
 put-requires : tie.Need-put-requires Inv-loop μ-loop
 put-requires c κs =
@@ -70,14 +69,13 @@ put-requires c κs =
     (omega (arith, part-long (l .inv) (c .before .before .before .before .before .before .loop-test .taken) (omega arith)), decoding-long (l .inv))
 
 add-len : tie.Need-add-len Inv-loop μ-loop
-unfolding room
-add-len c = omega arith
+add-len c = record { fits = len-fits (c .before .before .before .before .before .before .before .before .before .before .loop .inv) (c .before .before .before .before .before .before .before .before .before .loop-test .taken) (c .before .before .before .before .before .if2 .left) }
 
 loop-less-2 : tie.Need-loop-less-2 Inv-loop μ-loop
-loop-less-2 c = omega arith
+loop-less-2 c = group-closer (c .before .before .before .before .before .before .before .before .before .before .loop .inv) (c .before .before .before .before .before .before .before .before .before .loop-test .taken) (c .before .before .before .before .before .if2 .left)
 
 loop-again-2 : tie.Need-loop-again-2 Inv-loop μ-loop
-loop-again-2 c = rw (c .before .before .put .ensures, c .before .before .before .before .before .before .before .gap-after .ensures) (decoding-more (c .before .before .before .before .before .before .before .before .before .before .loop .inv) (c .before .before .before .before .before .before .before .before .before .loop-test .taken) (omega arith))
+loop-again-2 c = rw (c .before .before .put .ensures, c .before .before .before .before .before .before .before .gap-after .ensures) (decoding-more (c .before .before .before .before .before .before .before .before .before .before .loop .inv) (c .before .before .before .before .before .before .before .before .before .loop-test .taken) (c .before .before .before .before .before .if2 .left))
 
 same-length-2 : tie.Need-same-length-2 Inv-loop μ-loop
 same-length-2 c = decoding-long (c .before .loop .inv) ∙ sym (decoding-long (decoding-none (c .before .before .before .before .pre)))

@@ -4,28 +4,27 @@ use mathlib.Core.Path.{_≡_, refl, sym, ap, fun-ext, _∙_}
 use mathlib.Core.Bool.{Bool, true, false}
 use mathlib.Core.List.{List, []}
 use Prim.Native.Nat.{ℕ, _+_, _-_, _/_, _<_, _≤_}
-use native.Mathlib.Omega.{arith}
 use lib.ListN.{length}
 use lib.Dec.{eqb}
 use borrow.Author.Tests.{eq-eqb, ne-eqb}
 use Rattle.wire.specs.declared.Layout.{Layout}
 use Rattle.wire.specs.declared.Checked.the-variants.{Good}
-use Rattle.wire.specs.Shape.{Kind, struct}
-use Rattle.wire.specs.Walk.{following, times, all, along, walk, Step}
-use Rattle.wire.specs.Table.{u16At, kinds, kindOf, nodeAt, recordOf, shapesAt, shapeOf, check}
+use Rattle.wire.specs.Shape.{struct}
+use Rattle.wire.specs.Walk.{times}
+use Rattle.wire.specs.Table.{u16At, shapeOf, check}
 use Rattle.wire.specs.Writing.{Left, Wrote, misfit, single, headBytes, writeNothing, writeOn, writeThen, writeEntry, writeItem, writing, write}
 use Rattle.wire.specs.Answers.{wordsPer}
-use Rattle.laws.specs.Tables.{nodeFirst, nodeCount, nodeShape, GoodTable}
+use Rattle.laws.specs.Tables.{nodeShape, GoodTable}
 use Rattle.laws.proofs.Tables.{good-table}
 use Rattle.laws.proofs.Own.{single-yes, single-no, single-second}
-use Rattle.laws.proofs.Children.{times-none, times-more, row-none, row-more, row-once, walk-node}
-use Rattle.table.specs.Parts.{Falls}
-use Rattle.table.proofs.Stretches.{falls-first, node-falls, root-number}
+use Rattle.laws.proofs.Children.{times-none, times-more, row-none, row-more, row-once}
+use Rattle.table.specs.declared.Way.{Way}
+use Rattle.table.specs.Parts.{Falls, Flat, under}
+use Rattle.table.proofs.Stretches.{root-number, flat-falls, flat-same}
 use Rattle.writer.specs.declared.Put.{Put}
-use Rattle.writer.specs.declared.Way.{Way}
 use Rattle.writer.specs.declared.Begun.{Begun}
 use Rattle.writer.specs.declared.Begun.the-variants.{At, Misfit}
-use Rattle.writer.specs.Steps.{entries, writeNode, writeRow, headed, writeRounds, Sure, Gives, Flat, Begins}
+use Rattle.writer.specs.Steps.{entries, writeNode, writeRow, headed, writeRounds, Sure, Gives, Begins}
 use Rattle.writer.proofs.Entries.{entryAt, entries-none}
 use Rattle.writer.proofs.Going.{First, after-none, then-nothing}
 use Rattle.writer.proofs.Nodes.{Starts, item-starts}
@@ -65,13 +64,30 @@ module _ (s : List ℕ) (l : Layout) (pool : List ℕ) (c : ℕ) (h : Bool) (fro
         let begun : headed h pool n (writeRow s l pool from n) (entries ws i) ≡ misfit i = rw q at (b .holds pool n (writeRow s l pool from n)) in
         more ∙ ap (λ w. writeOn w (writeRounds s l pool (c - 1) h from n)) begun
 
--- a way that is the same step, so often
-pub flat-rounds : {s : List ℕ} {l : Layout} {i from n : ℕ} {way : Way} → Flat s l i from n way → (pool : List ℕ) (c : ℕ) (x : Left)
+-- ---- a stretch of one struct
+
+under-headed : (pool : List ℕ) (h : Bool) (n : ℕ) (f : Left → Wrote) (x : Left) → under (writing pool) h n f x ≡ headed h pool n f x
+unfolding under headed
+under-headed pool true n f x = refl
+under-headed pool false n f x = refl
+
+-- numbers below i, and a way that is the same step
+pub record Writing (s : List ℕ) (l : Layout) (i from n : ℕ) (way : Way) : Type 0 where
+  pub falls : Falls s (way .from) (way .width) i
+  pub same : (pool : List ℕ) → writeRow s l pool from n ≡ headed (way .headed) pool (way .width) (writeRow s l pool (way .from) (way .width))
+
+pub flat-writes : {s : List ℕ} {l : Layout} {i from n : ℕ} {way : Way} → GoodTable s l → i ≤ l .nodes → Flat s l i from n way → Writing s l i from n way
+unfolding writeRow
+flat-writes g h f =
+    record { falls = flat-falls g h f; same = λ pool. fun-ext (λ x. flat-same g h (writing pool) then-nothing f x ∙ under-headed pool _ _ _ x) }
+
+-- so often
+pub flat-rounds : {s : List ℕ} {l : Layout} {i from n : ℕ} {way : Way} → Writing s l i from n way → (pool : List ℕ) (c : ℕ) (x : Left)
     → writeRounds s l pool c false from n x ≡ writeRounds s l pool c (way .headed) (way .from) (way .width) x
 unfolding writeRounds headed
 flat-rounds f pool c x = ap (λ g. times (writing pool) c g x) (f .same pool)
 
-module _ {s : List ℕ} {l : Layout} {i from n : ℕ} {way : Way} (f : Flat s l i from n way) (pool : List ℕ) (c : ℕ) (x : Left) where
+module _ {s : List ℕ} {l : Layout} {i from n : ℕ} {way : Way} (f : Writing s l i from n way) (pool : List ℕ) (c : ℕ) (x : Left) where
   pub flat-sure : {judged : Bool} → Sure judged (writeRounds s l pool c false from n x) → Sure judged (writeRounds s l pool c (way .headed) (way .from) (way .width) x)
   flat-sure h = rw (← (flat-rounds f pool c x)) h
 
@@ -86,37 +102,6 @@ unfolding writeRounds headed writeRow write
 root-once s {l} good at place pool x =
     row-once (writing pool) (nodeShape s l) s then-nothing at x ∙ ap (λ i. write (nodeShape s l i) pool x) (root-number s good at place)
     ∙ ap (λ t. write t pool x) (sym (good-table s l good .its-shape))
-
--- ---- a stretch of one struct
-
--- a struct is its fields behind its entry
-struct-item : (pool : List ℕ) (k : Kind) → k ≡ struct → (n : ℕ) (fs : List (Step (writing pool))) (x : Left)
-    → writeItem pool k n (λ a. along (writing pool) (following k a) fs) x ≡ headed true pool n (all (writing pool) fs) x
-unfolding headed following along times
-struct-item pool k e n fs x = rw e (ap (λ f. writeItem pool struct n (λ a. f) x) (fun-ext (then-nothing (all (writing pool) fs))))
-
-one-node : (s : List ℕ) (l : Layout) (pool : List ℕ) (from : ℕ) (x : Left) → writeRow s l pool from 1 x ≡ walk (writing pool) (nodeShape s l (u16At s from)) x
-unfolding writeRow all walk shapesAt
-one-node s l pool from x = then-nothing _ x
-
-module _ (s : List ℕ) (l : Layout) (i from : ℕ) (g : GoodTable s l) (h : i ≤ l .nodes) where
-  pub flat-bare : (n : ℕ) → Falls s from n i → Flat s l i from n (record { headed = false; from = from; width = n })
-  unfolding headed
-  flat-bare n f = record { falls = f; same = λ pool. refl }
-
-  pub flat-struct : (n c k first count : ℕ) → Falls s from n i → n ≡ 1 → c ≡ u16At s from → k ≡ 18 → k ≡ nodeAt s (recordOf l c) .number
-      → first ≡ nodeFirst l c (nodeAt s (recordOf l c)) → count ≡ nodeCount (nodeAt s (recordOf l c))
-      → Flat s l i from n (record { headed = true; from = first; width = count })
-  unfolding writeRow kindOf kinds
-  flat-struct n c k first count f one child is number at many =
-      let low : c < i = omega (arith, falls-first f (omega arith)) in
-      let good = g .node-good c (omega arith) in
-      let fields = node-falls {i = c} g (omega arith) in
-      rw (at, many, one)
-      (record {
-        falls = record { inside = fields .inside; below = λ j b. let e = fields .below j b in omega arith };
-        same = λ pool. fun-ext (λ x. one-node s l pool from x ∙ (rw (← child) (walk-node (writing pool) good x ∙ struct-item pool _ (ap kindOf (sym number ∙ is)) _ _ x)));
-      })
 
 -- ---- the entry that heads a round
 

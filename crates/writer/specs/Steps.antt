@@ -20,7 +20,6 @@ use Rattle.writer.specs.declared.Put.{Put}
 use Rattle.writer.specs.declared.Put.the-variants.{Done, Misfit}
 use Rattle.writer.specs.declared.Entered.{Entered}
 use Rattle.writer.specs.declared.Entered.the-variants as entered
-use Rattle.writer.specs.declared.Way.{Way}
 use Rattle.writer.specs.declared.Ahead.{Ahead}
 use Rattle.writer.specs.declared.Begun.{Begun}
 use Rattle.writer.specs.declared.Begun.the-variants as begun
@@ -78,11 +77,6 @@ EntersBy w s l pool i ws at u before entered.Misfit out = w ≡ misfit at
 
 pub record Enters (w : Wrote) (s : List ℕ) (l : Layout) (pool : List ℕ) (i : ℕ) (ws : List ℕ) (at u : ℕ) (before : List ℕ) (r : Entered) (out : List ℕ) : Type 0 where
   pub holds : EntersBy w s l pool i ws at u before r out
-
--- a way of numbers below i that is the same step as a row
-pub record Flat (s : List ℕ) (l : Layout) (i from n : ℕ) (way : Way) : Type 0 where
-  pub falls : Falls s (way .from) (way .width) i
-  pub same : (pool : List ℕ) → writeRow s l pool from n ≡ headed (way .headed) pool (way .width) (writeRow s l pool (way .from) (way .width))
 
 -- a round begins behind the entry that heads it, or that entry is a misfit
 abbrev pub BeginsBy : Bool → List ℕ → ℕ → Begun → (pool : List ℕ) → (n : ℕ) → (Left → Wrote) → Type 0

@@ -15,7 +15,7 @@ ghost use Rattle.wire.specs.Answers.{formed, writes};
 ghost use Rattle.laws.specs.Tables.{GoodTable};
 ghost use Rattle.table.specs.Parts.{Falls};
 ghost use Rattle.forms.specs.Own.{IsLeaf};
-ghost use Rattle.writer.specs.Steps.{entries, writeLeaf, writeNode, writeRow, writeRounds, Sure, Gives, Enters, Flat, Begins, Leads, Whole};
+ghost use Rattle.writer.specs.Steps.{entries, writeLeaf, writeNode, writeRow, writeRounds, Sure, Gives, Enters, Begins, Leads, Whole};
 ghost use Rattle.writer.specs.Promise.{Writes};
 
 // So long is a form that the first pass keeps.
@@ -34,13 +34,6 @@ enum Put {
 enum Entered {
     On { to: Stretch, used: usize },
     Misfit,
-}
-
-// A stretch as its rounds go, and whether the entry of a struct heads each of them.
-struct Way {
-    headed: bool,
-    from: usize,
-    width: usize,
 }
 
 // How far integers in front of a row were put: the next entry, how many bytes there are now, and where the numbers that are left
@@ -126,34 +119,6 @@ fn enter(
 }
 
 // ---- rounds
-
-// A stretch as its rounds go: the numbers of a struct's fields where it is that struct alone, whose entry then heads
-// every round, so that no call is made for it.
-fn flat(table: &[u8], l: Layout, node: usize, from: usize, width: usize) -> Way
-    requires { ⌜ GoodTable (now table) l ⌝ }
-    requires { ⌜ node ≤ l .nodes ⌝ }
-    requires { ⌜ Falls (now table) from width node ⌝ }
-    ensures { λ r. ⌜ Flat (now (table .entry)) l node from width r ⌝ }
-{
-    if width == 1 {
-        let c = table::u16_at(table, from);
-        let number = table::kind_at(table, l, c);
-        if number == 18 {
-            let first = table::first_child(table, l, c);
-            let count = table::child_count(table, l, c);
-            return Way {
-                headed: true,
-                from: first,
-                width: count,
-            };
-        }
-    }
-    Way {
-        headed: false,
-        from,
-        width,
-    }
-}
 
 // A struct's entry has no bytes.
 fn begin(headed: bool, words: &[u64], at: usize) -> Begun
@@ -252,7 +217,7 @@ fn inner_item(
                     used: more,
                 };
             }
-            let way = flat(table, l, node, to.from, to.width);
+            let way = table::flat(table, l, node, to.from, to.width);
             put_rounds(
                 table,
                 l,
@@ -385,7 +350,7 @@ fn put_list(
     ensures { λ r. ⌜ Gives (writeShape (shapeOf (now (table .entry)) l) (now (pool .entry)) (entries (now (words .entry)) 0)) (now (words .entry)) 0 (now (out .entry)) r (now (out .exit)) ⌝ }
 {
     let from = table::root_at(table);
-    let way = flat(table, l, l.nodes, from, 1);
+    let way = table::flat(table, l, l.nodes, from, 1);
     put_rounds(
         table,
         l,
@@ -491,7 +456,7 @@ fn put_front(table: &[u8], l: Layout, words: &[u64], out: &mut [u8]) -> Ahead
     ensures { λ r. ⌜ Whole (now (table .entry)) l (now (words .entry)) (now (out .entry)) r (now (out .exit)) ⌝ }
 {
     let from = table::root_at(table);
-    let way = flat(table, l, l.nodes, from, 1);
+    let way = table::flat(table, l, l.nodes, from, 1);
     let begun = begin(way.headed, words, 0);
     let Begun::At { at: start } = begun else {
         return Ahead {

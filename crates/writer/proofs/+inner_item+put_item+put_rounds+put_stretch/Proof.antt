@@ -17,10 +17,10 @@ use Rattle.forms.specs.Own.{IsLeaf}
 use Rattle.writer.specs.Steps.{entries, writeRow, writeRounds, Going}
 use Rattle.writer.proofs.Going.{few-bytes, going-begin, no-going-on, gives-whole, sure-rest, sure-first, first-misfit, first-done, going-end, gives-misfit}
 use Rattle.writer.proofs.Nodes.{node-end, node-number, node-leaf, entered-on, entered-misfit}
-use Rattle.writer.proofs.Rounds.{stretch-none, stretch-first, rounds-none, rounds-first, rounds-misfit, flat-sure, flat-gives}
+use Rattle.writer.proofs.Rounds.{flat-writes, stretch-none, stretch-first, rounds-none, rounds-first, rounds-misfit, flat-sure, flat-gives}
 use Rattle.writer.proofs.begin.Reads as begin-reads
 use Rattle.writer.proofs.enter.Reads as enter-reads
-use Rattle.writer.proofs.flat.Reads as flat-reads
+use Rattle.table.proofs.flat.Reads as flat-reads
 use Rattle.writer.proofs.leaf_item.Reads as leaf-item-reads
 use Rattle.writer.proofs.inner_item.Reads as inner-item
 use Rattle.writer.proofs.inner_item.Kinds as inner-item-kinds
@@ -128,14 +128,16 @@ module _ (t : ℕ) where
   inner-put-rounds-requires : inner-item-lts.Need-put-rounds-requires inner-calls inner-at inner-item.Post
   inner-put-rounds-requires c κs =
       let s = c .before .before .before .before .before .before .before .before .before .before .before .before .before .before .before in
-      (inner-rounds _ (s .pre .0), (s .pre .1 .0, (omega (arith, s .pre .1 .1 .0), (c .before .flat .ensures .falls, flat-sure (c .before .flat .ensures) _ _ _ (sure-rest (few-bytes _ (s .good .1 .1 .1 .1 .1 .1 .1 .0 .1)) ((entered-on (c .before .before .before .before .before .before .before .before .before .enter .ensures) (c .before .before .before .before .before .entered .given .1)) .going) (s .pre .1 .1 .1 .1 .1 .1))))))
+      let w = flat-writes (s .pre .1 .0) (omega (arith, s .pre .1 .1 .0)) (c .before .flat .ensures) in
+      (inner-rounds _ (s .pre .0), (s .pre .1 .0, (omega (arith, s .pre .1 .1 .0), (w .falls, flat-sure w _ _ _ (sure-rest (few-bytes _ (s .good .1 .1 .1 .1 .1 .1 .1 .0 .1)) ((entered-on (c .before .before .before .before .before .before .before .before .before .enter .ensures) (c .before .before .before .before .before .entered .given .1)) .going) (s .pre .1 .1 .1 .1 .1 .1))))))
 
   inner-returns-2 : inner-item-lts.Need-returns-2 inner-calls inner-at inner-item.Post
   inner-returns-2 c = gives-misfit (entered-misfit (c .before .before .before .before .enter .ensures) (c .enum-told .given .1))
 
   inner-returns-3 : inner-item-lts.Need-returns-3 inner-calls inner-at inner-item.Post
   inner-returns-3 c =
-      gives-whole (few-bytes _ (c .before .before .before .before .before .before .before .before .before .before .before .before .before .before .before .before .before .before .good .1 .1 .1 .1 .1 .1 .1 .0 .1)) ((entered-on (c .before .before .before .before .before .before .before .before .before .before .before .before .enter .ensures) (c .before .before .before .before .before .before .before .before .entered .given .1)) .going) (flat-gives (c .before .before .before .before .flat .ensures) _ _ _ (c .before .before .put-rounds .ensures))
+      let s = c .before .before .before .before .before .before .before .before .before .before .before .before .before .before .before .before .before .before in
+      gives-whole (few-bytes _ (s .good .1 .1 .1 .1 .1 .1 .1 .0 .1)) ((entered-on (c .before .before .before .before .before .before .before .before .before .before .before .before .enter .ensures) (c .before .before .before .before .before .before .before .before .entered .given .1)) .going) (flat-gives (flat-writes (s .pre .1 .0) (omega (arith, s .pre .1 .1 .0)) (c .before .before .before .before .flat .ensures)) _ _ _ (c .before .before .put-rounds .ensures))
 
 -- ---- the rounds
 

@@ -3,7 +3,8 @@
 use native.Mathlib.Omega.{arith}
 use borrow.Author.Needs.{needs}
 use Rattle.laws.proofs.Tables.{good-table}
-use Rattle.table.proofs.Stretches.{root-falls}
+use Rattle.table.proofs.Stretches.{root-falls, flat-falls}
+use Rattle.writer.proofs.Rounds.{flat-writes}
 use Rattle.writer.proofs.Few.{front-whole}
 use Rattle.writer.proofs.put_front.Statement.{statement}
 use Rattle.writer.proofs.put_front.Tie as tie
@@ -27,13 +28,15 @@ returns : tie.Need-returns
 returns c = record { all = λ z pool. absurd (omega (arith, z)) }
 
 put-ints-requires : tie.Need-put-ints-requires
-put-ints-requires c κs = (good-table _ _ (c .before .before .before .before .before .before .before .before .before .before .pre), c .before .before .before .before .before .flat .ensures .falls)
+put-ints-requires c κs =
+    let g = good-table _ _ (c .before .before .before .before .before .before .before .before .before .before .pre) in
+    (g, flat-falls g (omega arith) (c .before .before .before .before .before .flat .ensures))
 
 same-length : tie.Need-same-length
 same-length c = search needs
 
 returns-2 : tie.Need-returns-2
-returns-2 c = let s = c .before .before .before .before .before .before .before .before .before .before .before .before .before in front-whole (s .pre) (c .before .before .before .before .before .before .before .before .before .root-at .ensures) (c .before .before .before .before .before .before .before .before .flat .ensures) (c .before .before .before .before .before .before .before .begin .ensures) (c .before .before .before .before .before .begun .given .1) (omega (arith, s .good .1 .1 .1 .0 .1)) (c .before .before .put-ints .ensures)
+returns-2 c = let s = c .before .before .before .before .before .before .before .before .before .before .before .before .before in front-whole (s .pre) (c .before .before .before .before .before .before .before .before .before .root-at .ensures) (flat-writes (good-table _ _ (s .pre)) (omega arith) (c .before .before .before .before .before .before .before .before .flat .ensures)) (c .before .before .before .before .before .before .before .begin .ensures) (c .before .before .before .before .before .begun .given .1) (omega (arith, s .good .1 .1 .1 .0 .1)) (c .before .before .put-ints .ensures)
 
 pub put-front-spec : {M : Type 1} → statement M
 put-front-spec =

@@ -1,6 +1,6 @@
 -- The proofs of what specs/ states, and the laws that the functions cite.
 pub mod Entries
-pub mod Few
+pub mod Fronts
 pub mod Going
 pub mod Nodes
 pub mod Rounds

@@ -18,6 +18,7 @@ use Rattle.wire.specs.declared.Checked.the-variants.{Good, Bad}
 use Rattle.wire.specs.declared.WriteAnswer.{WriteAnswer}
 use Rattle.wire.specs.declared.WriteAnswer.the-variants.{Done, Refused}
 use Rattle.wire.specs.Tests.{pick, given}
+use Rattle.wire.specs.Shape.{Shape}
 use Rattle.wire.specs.Table.{check, shapeOf}
 use Rattle.wire.specs.Writing.{Wrote, wrote, misfit, after, write}
 use Rattle.wire.specs.Answers.{wordsPer, Form, form, noForm, formOf, formed, writeBy, writes, writeAnswer, outWith}
@@ -26,7 +27,10 @@ use Rattle.forms.proofs.Counting.{cap-above, cap-within}
 use Rattle.writer.specs.declared.Put.{Put}
 use Rattle.writer.specs.declared.Put.the-variants as put
 use Rattle.writer.specs.Steps.{entries, Sure, Going, GivesBy, Gives}
-use Rattle.writer.specs.Promise.{Writes, OneWriting}
+use Rattle.writer.specs.declared.Few.{Few}
+use Rattle.writer.specs.declared.Few.the-variants as few
+use Rattle.writer.specs.Promise.{Writes, Tried, OneWriting}
+use Rattle.writer.specs.Promise as promise
 use Rattle.writer.proofs.Entries.{entries-none, entries-more}
 
 writes-no : {f : Form} {e : Refusal} {p : ℕ} (out : List ℕ) → f ≡ noForm e p → Writes f out (Refused e p) out
@@ -114,6 +118,21 @@ module _ {w : Wrote} {ws before : List ℕ} {r : Put} {after : List ℕ} (out : 
 
         pub judged-done : {p : Put} {left : List ℕ} → Gives w ws 0 out p left → Writes (formed (length out) w) out (Done n) left
         judged-done {p} {left} g = stored (put-whole p left (g .holds))
+
+-- ---- a list that was tried as a few integers
+
+module _ {t : Shape} {ws out : List ℕ} {r : Few} {left : List ℕ} (tried : Tried t ws out r left) where
+  pub tried-put : {used : ℕ} → r ≡ few.Put used → (pool : List ℕ) → Writes (formed (length out) (write t pool (entries ws 0))) out (Done used) left
+  tried-put {used} e = go (rw e at tried)
+    where
+      go : Tried t ws out (few.Put used) left → (pool : List ℕ) → Writes (formed (length out) (write t pool (entries ws 0))) out (Done used) left
+      go (promise.put h) = h
+
+  pub tried-other : r ≡ few.Other → left ≡ out
+  tried-other e = go left (rw e at tried)
+    where
+      go : (now : List ℕ) → Tried t ws out few.Other now → now ≡ out
+      go now promise.other = refl
 
 -- ---- with the table's check
 

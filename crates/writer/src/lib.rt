@@ -16,7 +16,7 @@ ghost use Rattle.laws.specs.Tables.{GoodTable};
 ghost use Rattle.table.specs.Parts.{Falls};
 ghost use Rattle.forms.specs.Own.{IsLeaf};
 ghost use Rattle.writer.specs.Steps.{entries, writeLeaf, writeNode, writeRow, writeRounds, Sure, Gives, Enters, Begins, Leads, Whole};
-ghost use Rattle.writer.specs.Promise.{Writes};
+ghost use Rattle.writer.specs.Promise.{Writes, Tried};
 
 // So long is a form that the first pass keeps.
 const SHORT: usize = 64;
@@ -43,6 +43,12 @@ struct Ahead {
     used: usize,
     child: usize,
     left: usize,
+}
+
+// What became of a list that was tried as a few integers: so many bytes are put; or it is another list, and nothing is.
+enum Few {
+    Put { used: usize },
+    Other,
 }
 
 // Where the nodes of a round begin; or that no value has the entry that heads it.
@@ -469,26 +475,41 @@ fn put_front(table: &[u8], l: Layout, words: &[u64], out: &mut [u8]) -> Ahead
     put_ints(table, l, way.from, way.width, words, start, out)
 }
 
-// A list of whole entries: if it is a few integers, without the cycle.
-fn write_few(table: &[u8], l: Layout, words: &[u64], pool: &[u8], out: &mut [u8]) -> WriteAnswer
+// A list that is tried as a few integers: how many bytes now stand in front in the output, if it is one and they have room there.
+fn put_few(table: &[u8], l: Layout, words: &[u64], out: &mut [u8]) -> Few
     requires { ⌜ checkOf (now table) ≡ Good l ⌝ }
-    requires { ⌜ length (now words) % 2 ≡ 0 ⌝ }
-    ensures { λ r. ⌜ Writes (formed (length (now (out .entry))) (writeShape (shapeOf (now (table .entry)) l) (now (pool .entry)) (entries (now (words .entry)) 0))) (now (out .entry)) r (now (out .exit)) ⌝ }
+    ensures { λ r. ⌜ Tried (shapeOf (now (table .entry)) l) (now (words .entry)) (now (out .entry)) r (now (out .exit)) ⌝ }
 {
+    if FEW < words.len() {
+        return Few::Other;
+    }
     let mut small: [u8; SHORT] = [0; SHORT];
     let front = put_front(table, l, words, &mut small);
     if front.left == 0 {
         if words.len() / 2 <= front.at {
-            let count = front.used;
-            if count <= SHORT {
-                if count <= out.len() {
-                    forms::put_bytes(&small[..count], out, 0);
-                    return WriteAnswer::Done { place: count };
+            let used = front.used;
+            if used <= SHORT {
+                if used <= out.len() {
+                    forms::put_bytes(&small[..used], out, 0);
+                    return Few::Put { used };
                 }
             }
         }
     }
-    write_entries(table, l, words, pool, out)
+    Few::Other
+}
+
+// A list of whole entries.
+fn write_list(table: &[u8], l: Layout, words: &[u64], pool: &[u8], out: &mut [u8]) -> WriteAnswer
+    requires { ⌜ checkOf (now table) ≡ Good l ⌝ }
+    requires { ⌜ length (now words) % 2 ≡ 0 ⌝ }
+    ensures { λ r. ⌜ Writes (formed (length (now (out .entry))) (writeShape (shapeOf (now (table .entry)) l) (now (pool .entry)) (entries (now (words .entry)) 0))) (now (out .entry)) r (now (out .exit)) ⌝ }
+{
+    let few = put_few(table, l, words, out);
+    match few {
+        Few::Put { used } => WriteAnswer::Done { place: used },
+        Few::Other => write_entries(table, l, words, pool, out),
+    }
 }
 
 // Writes a value list by a table: how many bytes, which stand in front in the output, or why not.
@@ -500,10 +521,7 @@ pub fn write(table: &[u8], words: &[u64], pool: &[u8], out: &mut [u8]) -> WriteA
         Checked::Bad { why, place } => WriteAnswer::Refused { why, place },
         Checked::Good { layout } => {
             if words.len() % 2 == 0 {
-                if words.len() <= FEW {
-                    return write_few(table, layout, words, pool, out);
-                }
-                return write_entries(table, layout, words, pool, out);
+                return write_list(table, layout, words, pool, out);
             }
             WriteAnswer::Refused {
                 why: Refusal::Values,

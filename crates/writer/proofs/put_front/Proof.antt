@@ -5,7 +5,7 @@ use borrow.Author.Needs.{needs}
 use Rattle.laws.proofs.Tables.{good-table}
 use Rattle.table.proofs.Stretches.{root-falls, flat-falls}
 use Rattle.writer.proofs.Rounds.{flat-writes}
-use Rattle.writer.proofs.Few.{front-whole}
+use Rattle.writer.proofs.Fronts.{front-whole}
 use Rattle.writer.proofs.put_front.Statement.{statement}
 use Rattle.writer.proofs.put_front.Tie as tie
 

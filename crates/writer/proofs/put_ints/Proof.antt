@@ -9,7 +9,7 @@ use Rattle.table.proofs.Stretches.{falls-first, falls-next}
 use Rattle.writer.specs.Steps.{Leads}
 use Rattle.writer.proofs.Going.{few-bytes, going-begin, first-done}
 use Rattle.writer.proofs.Rounds.{stretch-first}
-use Rattle.writer.proofs.Few.{ready-gives}
+use Rattle.writer.proofs.Fronts.{ready-gives}
 use Rattle.writer.proofs.put_ints.Statement.{statement}
 use Rattle.writer.proofs.put_ints.Tie as tie
 

@@ -16,29 +16,20 @@ enum-known-checked c = search needs
 enum-known-checked-2 : tie.Need-enum-known-checked-2
 enum-known-checked-2 c = search needs
 
-write-few-requires : tie.Need-write-few-requires
-write-few-requires c κs = (sym (c .before .before .before .before .before .before .check .ensures) ∙ c .before .before .before .before .checked2 .given .1, omega arith)
+write-list-requires : tie.Need-write-list-requires
+write-list-requires c κs = (sym (c .before .before .before .before .before .check .ensures) ∙ c .before .before .before .checked2 .given .1, omega arith)
 
 same-length : tie.Need-same-length
 same-length c = search needs
 
 returns : tie.Need-returns
-returns c = writes-even _ _ _ _ (sym (c .before .before .before .before .before .before .before .before .before .check .ensures) ∙ c .before .before .before .before .before .before .before .checked2 .given .1) (omega arith) (c .before .before .write-few .ensures)
-
-write-entries-requires : tie.Need-write-entries-requires
-write-entries-requires c κs = (sym (c .before .before .before .before .before .before .check .ensures) ∙ c .before .before .before .before .checked2 .given .1, omega arith)
-
-same-length-2 : tie.Need-same-length-2
-same-length-2 c = search needs
+returns c = writes-even _ _ _ _ (sym (c .before .before .before .before .before .before .before .before .check .ensures) ∙ c .before .before .before .before .before .before .checked2 .given .1) (omega arith) (c .before .before .write-list .ensures)
 
 returns-2 : tie.Need-returns-2
-returns-2 c = writes-even _ _ _ _ (sym (c .before .before .before .before .before .before .before .before .before .check .ensures) ∙ c .before .before .before .before .before .before .before .checked2 .given .1) (omega arith) (c .before .before .write-entries .ensures)
+returns-2 c = writes-bad _ _ _ _ (sym (c .before .before .before .check .ensures) ∙ c .before .checked .given .1)
 
 returns-3 : tie.Need-returns-3
-returns-3 c = writes-bad _ _ _ _ (sym (c .before .before .before .check .ensures) ∙ c .before .checked .given .1)
-
-returns-4 : tie.Need-returns-4
-returns-4 c = writes-odd _ _ _ _ (sym (c .before .before .before .before .check .ensures) ∙ c .before .before .checked2 .given .1) (λ e. omega arith)
+returns-3 c = writes-odd _ _ _ _ (sym (c .before .before .before .before .check .ensures) ∙ c .before .before .checked2 .given .1) (λ e. omega arith)
 
 pub write-spec : {M : Type 1} → statement M
 write-spec =
@@ -47,11 +38,8 @@ write-spec =
     check-requires
     enum-known-checked
     enum-known-checked-2
-    write-few-requires
+    write-list-requires
     same-length
     returns
-    write-entries-requires
-    same-length-2
     returns-2
-    returns-3
-    returns-4)
+    returns-3)

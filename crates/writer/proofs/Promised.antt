@@ -24,14 +24,14 @@ use Rattle.wire.specs.Writing.{Wrote, wrote, misfit, after, write}
 use Rattle.wire.specs.Answers.{wordsPer, Form, form, noForm, formOf, formed, writeBy, writes, writeAnswer, outWith}
 use Rattle.forms.specs.Bytes.{cap, Puts}
 use Rattle.forms.proofs.Counting.{cap-above, cap-within}
-use Rattle.writer.specs.declared.Put.{Put}
-use Rattle.writer.specs.declared.Put.the-variants as put
-use Rattle.writer.specs.Steps.{entries, Sure, Going, GivesBy, Gives}
+use Rattle.lists.specs.declared.Put.{Put}
+use Rattle.lists.specs.declared.Put.the-variants as put
+use Rattle.lists.specs.Steps.{entries, Sure, Going, GivesBy, Gives}
 use Rattle.writer.specs.declared.Few.{Few}
 use Rattle.writer.specs.declared.Few.the-variants as few
 use Rattle.writer.specs.Promise.{Writes, Tried, OneWriting}
 use Rattle.writer.specs.Promise as promise
-use Rattle.writer.proofs.Entries.{entries-none, entries-more}
+use Rattle.lists.proofs.Entries.{entries-none, entries-more}
 
 writes-no : {f : Form} {e : Refusal} {p : ℕ} (out : List ℕ) → f ≡ noForm e p → Writes f out (Refused e p) out
 unfolding writeAnswer outWith

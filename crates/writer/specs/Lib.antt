@@ -1,4 +1,3 @@
--- What the contracts of writing cite, and what is promised of the public call.
-pub mod Steps
+-- What is promised of the public call.
 pub mod Promise
 pub mod RoundTrip

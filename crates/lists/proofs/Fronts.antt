@@ -10,16 +10,16 @@ use Rattle.wire.specs.declared.Checked.the-variants.{Good}
 use Rattle.wire.specs.Table.{kindOf, nodeAt, recordOf, check}
 use Rattle.laws.specs.Tables.{GoodTable}
 use Rattle.forms.specs.Own.{IsLeaf, Fitting, Spells}
-use Rattle.writer.specs.declared.Put.the-variants.{Done}
+use Rattle.lists.specs.declared.Put.the-variants.{Done}
 use Rattle.table.specs.declared.Way.{Way}
-use Rattle.writer.specs.declared.Ahead.{Ahead}
-use Rattle.writer.specs.declared.Begun.{Begun}
-use Rattle.writer.specs.declared.Begun.the-variants.{At}
-use Rattle.writer.specs.Steps.{entries, writeNode, writeRow, writeRounds, Gives, Begins, Leads, Whole}
-use Rattle.writer.proofs.Entries.{entryAt}
-use Rattle.writer.proofs.Going.{going-begin, going-end, first-done}
-use Rattle.writer.proofs.Nodes.{start-going, leaf-starts, node-leaf}
-use Rattle.writer.proofs.Rounds.{Writing, stretch-none, rounds-none, rounds-first, flat-rounds, root-once}
+use Rattle.lists.specs.declared.Ahead.{Ahead}
+use Rattle.lists.specs.declared.Begun.{Begun}
+use Rattle.lists.specs.declared.Begun.the-variants.{At}
+use Rattle.lists.specs.Steps.{entries, writeNode, writeRow, writeRounds, Gives, Begins, Leads, Whole}
+use Rattle.lists.proofs.Entries.{entryAt}
+use Rattle.lists.proofs.Going.{going-begin, going-end, first-done}
+use Rattle.lists.proofs.Nodes.{start-going, leaf-starts, node-leaf}
+use Rattle.lists.proofs.Rounds.{Writing, stretch-none, rounds-none, rounds-first, flat-rounds, root-once}
 
 -- the entry e, of the node i with the kind's number k
 pub ready-gives : {s : List ℕ} {l : Layout} {i : ℕ} → GoodTable s l → i < l .nodes → {k : ℕ} → k ≡ nodeAt s (recordOf l i) .number → {ws : List ℕ} {e room : ℕ} → Fitting k ws e room

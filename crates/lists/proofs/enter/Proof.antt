@@ -1,10 +1,10 @@
--- `writer::enter` meets its contract, by the laws of an entry of a good table's node.
+-- `lists::enter` meets its contract, by the laws of an entry of a good table's node.
 -- Assumes nothing.
 use borrow.Author.Needs.{needs}
-use Rattle.writer.proofs.Going.{few-bytes}
-use Rattle.writer.proofs.Nodes.{node-has, node-lacks, node-follows, node-inside, node-goes}
-use Rattle.writer.proofs.enter.Statement.{statement}
-use Rattle.writer.proofs.enter.Tie as tie
+use Rattle.lists.proofs.Going.{few-bytes}
+use Rattle.lists.proofs.Nodes.{node-has, node-lacks, node-follows, node-inside, node-goes}
+use Rattle.lists.proofs.enter.Statement.{statement}
+use Rattle.lists.proofs.enter.Tie as tie
 
 mul-i : tie.Need-mul-i
 mul-i c = search needs

@@ -8,7 +8,7 @@ use lib.ListN.{length, drop, getD, length-drop}
 use Rattle.wire.specs.Values.{Entry}
 use Rattle.wire.specs.Answers.{wordsPer, entriesOf}
 use Rattle.laws.proofs.Parts.{next}
-use Rattle.writer.specs.Steps.{entries}
+use Rattle.lists.specs.Steps.{entries}
 
 none-left : (s : List ℕ) → length s ≤ 1 → entriesOf s ≡ []
 unfolding entriesOf

@@ -21,13 +21,13 @@ use Rattle.laws.proofs.Children.{times-none, times-more, row-none, row-more, ro
 use Rattle.table.specs.declared.Way.{Way}
 use Rattle.table.specs.Parts.{Falls, Flat, under}
 use Rattle.table.proofs.Stretches.{root-number, flat-falls, flat-same}
-use Rattle.writer.specs.declared.Put.{Put}
-use Rattle.writer.specs.declared.Begun.{Begun}
-use Rattle.writer.specs.declared.Begun.the-variants.{At, Misfit}
-use Rattle.writer.specs.Steps.{entries, writeNode, writeRow, headed, writeRounds, Sure, Gives, Begins}
-use Rattle.writer.proofs.Entries.{entryAt, entries-none}
-use Rattle.writer.proofs.Going.{First, after-none, then-nothing}
-use Rattle.writer.proofs.Nodes.{Starts, item-starts}
+use Rattle.lists.specs.declared.Put.{Put}
+use Rattle.lists.specs.declared.Begun.{Begun}
+use Rattle.lists.specs.declared.Begun.the-variants.{At, Misfit}
+use Rattle.lists.specs.Steps.{entries, writeNode, writeRow, headed, writeRounds, Sure, Gives, Begins}
+use Rattle.lists.proofs.Entries.{entryAt, entries-none}
+use Rattle.lists.proofs.Going.{First, after-none, then-nothing}
+use Rattle.lists.proofs.Nodes.{Starts, item-starts}
 
 -- ---- a stretch
 

@@ -1,13 +1,13 @@
--- `writer::put_front` meets its contract: the root's node, once, is the whole shape.
+-- `lists::put_front` meets its contract: the root's node, once, is the whole shape.
 -- Assumes nothing.
 use native.Mathlib.Omega.{arith}
 use borrow.Author.Needs.{needs}
 use Rattle.laws.proofs.Tables.{good-table}
 use Rattle.table.proofs.Stretches.{root-falls, flat-falls}
-use Rattle.writer.proofs.Rounds.{flat-writes}
-use Rattle.writer.proofs.Fronts.{front-whole}
-use Rattle.writer.proofs.put_front.Statement.{statement}
-use Rattle.writer.proofs.put_front.Tie as tie
+use Rattle.lists.proofs.Rounds.{flat-writes}
+use Rattle.lists.proofs.Fronts.{front-whole}
+use Rattle.lists.proofs.put_front.Statement.{statement}
+use Rattle.lists.proofs.put_front.Tie as tie
 
 root-at-requires : tie.Need-root-at-requires
 root-at-requires c κs = let s = c .before .before .before in omega (arith, good-table _ _ (s .pre) .children-end)

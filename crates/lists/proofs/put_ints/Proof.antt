@@ -1,4 +1,4 @@
--- `writer::put_ints` meets its contract, which is the loop's invariant: an entry that is ready is the first step of the row that is left.
+-- `lists::put_ints` meets its contract, which is the loop's invariant: an entry that is ready is the first step of the row that is left.
 -- Assumes nothing.
 use mathlib.Core.Path.{_≡_, refl}
 use native.Mathlib.Omega.{arith}
@@ -6,12 +6,12 @@ use lib.ListN.{length}
 use borrow.Author.Needs.{needs}
 use borrow.Author.Tests.{not-false}
 use Rattle.table.proofs.Stretches.{falls-first, falls-next}
-use Rattle.writer.specs.Steps.{Leads}
-use Rattle.writer.proofs.Going.{few-bytes, going-begin, first-done}
-use Rattle.writer.proofs.Rounds.{stretch-first}
-use Rattle.writer.proofs.Fronts.{ready-gives}
-use Rattle.writer.proofs.put_ints.Statement.{statement}
-use Rattle.writer.proofs.put_ints.Tie as tie
+use Rattle.lists.specs.Steps.{Leads}
+use Rattle.lists.proofs.Going.{few-bytes, going-begin, first-done}
+use Rattle.lists.proofs.Rounds.{stretch-first}
+use Rattle.lists.proofs.Fronts.{ready-gives}
+use Rattle.lists.proofs.put_ints.Statement.{statement}
+use Rattle.lists.proofs.put_ints.Tie as tie
 
 abbrev Inv-loop : tie.InvT-loop
 Inv-loop table l from width words at out₀ i₀ n₀ child₀ left₀ out i n child left = Leads table l from width words at out₀ (record { at = i; used = n; child = child; left = left }) out × (length out ≡ length out₀)

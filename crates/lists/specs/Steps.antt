@@ -16,13 +16,13 @@ use Rattle.laws.specs.Tables.{nodeShape}
 use Rattle.table.specs.declared.Stretch.{Stretch}
 use Rattle.table.specs.Parts.{Falls}
 use Rattle.forms.specs.Bytes.{Puts}
-use Rattle.writer.specs.declared.Put.{Put}
-use Rattle.writer.specs.declared.Put.the-variants.{Done, Misfit}
-use Rattle.writer.specs.declared.Entered.{Entered}
-use Rattle.writer.specs.declared.Entered.the-variants as entered
-use Rattle.writer.specs.declared.Ahead.{Ahead}
-use Rattle.writer.specs.declared.Begun.{Begun}
-use Rattle.writer.specs.declared.Begun.the-variants as begun
+use Rattle.lists.specs.declared.Put.{Put}
+use Rattle.lists.specs.declared.Put.the-variants.{Done, Misfit}
+use Rattle.lists.specs.declared.Entered.{Entered}
+use Rattle.lists.specs.declared.Entered.the-variants as entered
+use Rattle.lists.specs.declared.Ahead.{Ahead}
+use Rattle.lists.specs.declared.Begun.{Begun}
+use Rattle.lists.specs.declared.Begun.the-variants as begun
 
 -- a value list's entries from the i-th on
 unfoldable pub entries : List ℕ → ℕ → Left

@@ -24,11 +24,11 @@ use Rattle.table.specs.Parts.{followed, Falls}
 use Rattle.table.proofs.Stretches.{falls-followed, node-falls, along-followed}
 use Rattle.forms.specs.Bytes.{Puts}
 use Rattle.forms.specs.Own.{isSome, IsLeaf, Known, Lets, Fits, SpellsEntry}
-use Rattle.writer.specs.declared.Entered.{Entered}
-use Rattle.writer.specs.declared.Entered.the-variants.{On, Misfit}
-use Rattle.writer.specs.Steps.{entries, writeLeaf, writeNode, writeRow, headed, writeRounds, Sure, Going, Goes, Enters}
-use Rattle.writer.proofs.Entries.{entryAt, entries-none, entries-more}
-use Rattle.writer.proofs.Going.{then-nothing}
+use Rattle.lists.specs.declared.Entered.{Entered}
+use Rattle.lists.specs.declared.Entered.the-variants.{On, Misfit}
+use Rattle.lists.specs.Steps.{entries, writeLeaf, writeNode, writeRow, headed, writeRounds, Sure, Going, Goes, Enters}
+use Rattle.lists.proofs.Entries.{entryAt, entries-none, entries-more}
+use Rattle.lists.proofs.Going.{then-nothing}
 
 -- ---- an entry
 

@@ -8,9 +8,9 @@ use native.Mathlib.Omega.{arith}
 use lib.ListN.{length}
 use Rattle.wire.specs.Writing.{Left, Wrote, wrote, misfit, after, writeNothing, writeOn, writeThen}
 use Rattle.forms.proofs.Counting.{puts-none, puts-both}
-use Rattle.writer.specs.declared.Put.{Put}
-use Rattle.writer.specs.declared.Put.the-variants.{Done, Misfit}
-use Rattle.writer.specs.Steps.{entries, Sure, Going, GivesBy, Gives}
+use Rattle.lists.specs.declared.Put.{Put}
+use Rattle.lists.specs.declared.Put.the-variants.{Done, Misfit}
+use Rattle.lists.specs.Steps.{entries, Sure, Going, GivesBy, Gives}
 
 -- a slice of bytes, as its room is told: the search of `omega` over a place's facts takes longer
 pub few-bytes : (n : ℕ) → n * 1 < 2 ^ 63 → n < 2 ^ 63

@@ -14,28 +14,28 @@ use Rattle.table.proofs.Stretches.{falls-first, falls-next}
 use Rattle.table.proofs.kind_at.Reads as kind-at-reads
 use Rattle.table.proofs.u16_at.Reads as u16-at-reads
 use Rattle.forms.specs.Own.{IsLeaf}
-use Rattle.writer.specs.Steps.{entries, writeRow, writeRounds, Going}
-use Rattle.writer.proofs.Going.{few-bytes, going-begin, no-going-on, gives-whole, sure-rest, sure-first, first-misfit, first-done, going-end, gives-misfit}
-use Rattle.writer.proofs.Nodes.{node-end, node-number, node-leaf, entered-on, entered-misfit}
-use Rattle.writer.proofs.Rounds.{flat-writes, stretch-none, stretch-first, rounds-none, rounds-first, rounds-misfit, flat-sure, flat-gives}
-use Rattle.writer.proofs.begin.Reads as begin-reads
-use Rattle.writer.proofs.enter.Reads as enter-reads
+use Rattle.lists.specs.Steps.{entries, writeRow, writeRounds, Going}
+use Rattle.lists.proofs.Going.{few-bytes, going-begin, no-going-on, gives-whole, sure-rest, sure-first, first-misfit, first-done, going-end, gives-misfit}
+use Rattle.lists.proofs.Nodes.{node-end, node-number, node-leaf, entered-on, entered-misfit}
+use Rattle.lists.proofs.Rounds.{flat-writes, stretch-none, stretch-first, rounds-none, rounds-first, rounds-misfit, flat-sure, flat-gives}
+use Rattle.lists.proofs.begin.Reads as begin-reads
+use Rattle.lists.proofs.enter.Reads as enter-reads
 use Rattle.table.proofs.flat.Reads as flat-reads
-use Rattle.writer.proofs.leaf_item.Reads as leaf-item-reads
-use Rattle.writer.proofs.inner_item.Reads as inner-item
-use Rattle.writer.proofs.inner_item.Kinds as inner-item-kinds
-use Rattle.writer.proofs.+inner_item+put_item+put_rounds+put_stretch.Lts-inner_item as inner-item-lts
-use Rattle.writer.proofs.put_item.Reads as put-item
-use Rattle.writer.proofs.put_item.Kinds as put-item-kinds
-use Rattle.writer.proofs.+inner_item+put_item+put_rounds+put_stretch.Lts-put_item as put-item-lts
-use Rattle.writer.proofs.put_rounds.Reads as put-rounds
-use Rattle.writer.proofs.put_rounds.Kinds as put-rounds-kinds
-use Rattle.writer.proofs.+inner_item+put_item+put_rounds+put_stretch.Lts-put_rounds as put-rounds-lts
-use Rattle.writer.proofs.put_stretch.Reads as put-stretch
-use Rattle.writer.proofs.put_stretch.Kinds as put-stretch-kinds
-use Rattle.writer.proofs.+inner_item+put_item+put_rounds+put_stretch.Lts-put_stretch as put-stretch-lts
-use Rattle.writer.proofs.+inner_item+put_item+put_rounds+put_stretch.{statement}
-use Rattle.writer.proofs.+inner_item+put_item+put_rounds+put_stretch.Tie.{close}
+use Rattle.lists.proofs.leaf_item.Reads as leaf-item-reads
+use Rattle.lists.proofs.inner_item.Reads as inner-item
+use Rattle.lists.proofs.inner_item.Kinds as inner-item-kinds
+use Rattle.lists.proofs.+inner_item+put_item+put_rounds+put_stretch.Lts-inner_item as inner-item-lts
+use Rattle.lists.proofs.put_item.Reads as put-item
+use Rattle.lists.proofs.put_item.Kinds as put-item-kinds
+use Rattle.lists.proofs.+inner_item+put_item+put_rounds+put_stretch.Lts-put_item as put-item-lts
+use Rattle.lists.proofs.put_rounds.Reads as put-rounds
+use Rattle.lists.proofs.put_rounds.Kinds as put-rounds-kinds
+use Rattle.lists.proofs.+inner_item+put_item+put_rounds+put_stretch.Lts-put_rounds as put-rounds-lts
+use Rattle.lists.proofs.put_stretch.Reads as put-stretch
+use Rattle.lists.proofs.put_stretch.Kinds as put-stretch-kinds
+use Rattle.lists.proofs.+inner_item+put_item+put_rounds+put_stretch.Lts-put_stretch as put-stretch-lts
+use Rattle.lists.proofs.+inner_item+put_item+put_rounds+put_stretch.{statement}
+use Rattle.lists.proofs.+inner_item+put_item+put_rounds+put_stretch.Tie.{close}
 
 abbrev μ-inner : Measures 4 inner-item-kinds.ps ℕ
 μ-inner κs a = a .1 .1 .0 * 4 + 2

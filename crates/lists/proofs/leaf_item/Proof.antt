@@ -1,11 +1,11 @@
--- `writer::leaf_item` meets its contract: a misfit, or the entry's own bytes, which nothing follows.
+-- `lists::leaf_item` meets its contract: a misfit, or the entry's own bytes, which nothing follows.
 -- Assumes nothing.
 use mathlib.Core.Path.{refl, sym, _∙_}
 use borrow.Author.Needs.{needs}
-use Rattle.writer.proofs.Going.{going-end, gives-misfit}
-use Rattle.writer.proofs.Nodes.{some-fits, start-lacks, start-known, start-going, leaf-starts}
-use Rattle.writer.proofs.leaf_item.Statement.{statement}
-use Rattle.writer.proofs.leaf_item.Tie as tie
+use Rattle.lists.proofs.Going.{going-end, gives-misfit}
+use Rattle.lists.proofs.Nodes.{some-fits, start-lacks, start-known, start-going, leaf-starts}
+use Rattle.lists.proofs.leaf_item.Statement.{statement}
+use Rattle.lists.proofs.leaf_item.Tie as tie
 
 mul-i : tie.Need-mul-i
 mul-i c = search needs

@@ -1,10 +1,10 @@
--- `writer::begin` meets its contract, by whether the round has an entry in front and a struct has it.
+-- `lists::begin` meets its contract, by whether the round has an entry in front and a struct has it.
 -- Assumes nothing.
 use native.Mathlib.Omega.{arith}
 use borrow.Author.Needs.{needs}
-use Rattle.writer.proofs.Rounds.{begins-bare, begins-end, begins-first, begins-second, begins-next}
-use Rattle.writer.proofs.begin.Statement.{statement}
-use Rattle.writer.proofs.begin.Tie as tie
+use Rattle.lists.proofs.Rounds.{begins-bare, begins-end, begins-first, begins-second, begins-next}
+use Rattle.lists.proofs.begin.Statement.{statement}
+use Rattle.lists.proofs.begin.Tie as tie
 
 returns : tie.Need-returns
 returns c = rw (c .before .if1 .taken) (begins-end _ _ (c .if2 .taken))

@@ -1,12 +1,12 @@
--- `writer::put_list` meets its contract: the root's node, once, is the whole shape.
+-- `lists::put_list` meets its contract: the root's node, once, is the whole shape.
 -- Assumes nothing.
 use native.Mathlib.Omega.{arith}
 use borrow.Author.Needs.{needs}
 use Rattle.laws.proofs.Tables.{good-table}
 use Rattle.table.proofs.Stretches.{root-falls}
-use Rattle.writer.proofs.Rounds.{flat-writes, flat-rounds, root-once}
-use Rattle.writer.proofs.put_list.Statement.{statement}
-use Rattle.writer.proofs.put_list.Tie as tie
+use Rattle.lists.proofs.Rounds.{flat-writes, flat-rounds, root-once}
+use Rattle.lists.proofs.put_list.Statement.{statement}
+use Rattle.lists.proofs.put_list.Tie as tie
 
 root-at-requires : tie.Need-root-at-requires
 root-at-requires c κs = let s = c .before .before .before .before in omega (arith, good-table _ _ (s .pre .0) .children-end)

@@ -1,0 +1,2 @@
+-- What the contracts of a list's passes cite.
+pub mod Steps

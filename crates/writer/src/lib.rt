@@ -395,7 +395,7 @@ fn write_entries(table: &[u8], l: Layout, words: &[u64], pool: &[u8], out: &mut 
                 };
             }
             if used <= SHORT {
-                forms::put_bytes(&small[..used], out, 0);
+                output::put_bytes(&small[..used], out, 0);
                 return WriteAnswer::Done { place: used };
             }
             put_list(table, l, words, pool, out, true);
@@ -427,7 +427,7 @@ fn put_ints(
     while 0 < left {
         let c = table::u16_at(table, field);
         let number = table::kind_at(table, l, c);
-        let room = forms::places(out.len(), n, varint::U64::MOST);
+        let room = output::places(out.len(), n, varint::U64::MOST);
         if !forms::is_ready(number, words, i, room) {
             return Ahead {
                 at: i,
@@ -482,7 +482,7 @@ fn write_few(table: &[u8], l: Layout, words: &[u64], pool: &[u8], out: &mut [u8]
             let count = front.used;
             if count <= SHORT {
                 if count <= out.len() {
-                    forms::put_bytes(&small[..count], out, 0);
+                    output::put_bytes(&small[..count], out, 0);
                     return WriteAnswer::Done { place: count };
                 }
             }

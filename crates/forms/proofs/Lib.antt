@@ -1,5 +1,4 @@
 -- The laws that the functions cite.
-pub mod Counting
 pub mod Sixths
 pub mod Judging
 pub mod Spelling

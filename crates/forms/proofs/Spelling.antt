@@ -4,10 +4,10 @@ use mathlib.Core.Path.{_≡_, refl, sym, ap, _∙_}
 use mathlib.Core.Bool.{Bool, true}
 use mathlib.Core.List.{List, [], _∷_}
 use mathlib.Core.Option.{some}
-use Prim.Native.Nat.{ℕ, _+_, _-_, _/_, _%_, _^_, _<_, _≤_}
+use Prim.Native.Nat.{ℕ, _+_, _-_, _%_, _<_, _≤_}
 use native.Mathlib.Omega.{arith}
 use native.Mathlib.Nat.{mod-eq-of-lt}
-use lib.ListN.{length, take, replicate, set, length-set}
+use lib.ListN.{length, take, replicate}
 use lib.Dec.{leb}
 use lib.Seq.{sets, sets-eq, length-sets, take-append-seam}
 use borrow.Author.Tests.{leb-true}
@@ -23,44 +23,10 @@ use Rattle.laws.proofs.Own.{when-some, single-some}
 use Rattle.laws.proofs.EachKind.{end, _&_, in-kinds}
 use Rattle.laws.proofs.Utf8.{char-text}
 use Rattle.utf8.specs.Chars.{Form}
-use Rattle.varint.specs.Put.{Put}
-use Rattle.varint.proofs.Writing.{Writing, begin, more, stop}
-use Rattle.forms.specs.Bytes.{cap, Puts}
+use Rattle.output.specs.Bytes.{Puts}
 use Rattle.forms.specs.Own.{widthAt, Fits, Spells, SpellsEntry}
-use Rattle.forms.proofs.Counting.{cap-small}
 use Rattle.forms.proofs.Sixths.{sign-low, sign-high, signed-int, unsigned-int, little-sixth, big-sixth}
 use Rattle.forms.proofs.Judging.{numbered}
-
--- ---- bytes that were put
-
-pub puts-varint : (x u : ℕ) {out after : List ℕ} {k n : ℕ} → Put out u x after k → n ≡ cap (u + k) → Puts (shortest x) u out n after
-puts-varint x u p e = record { counted = e ∙ ap (λ k. cap (u + k)) (p .size); stored = p .stored }
-
--- a loop that puts a varint's bytes where all have a place, at the place `at`: `rest` is left
-pub record Inside (before : List ℕ) (u x : ℕ) (out : List ℕ) (at rest : ℕ) : Type 0 where
-  pub up : u ≤ at
-  pub few : at ≤ u + 9
-  pub long : length out ≡ length before
-  pub is : Writing before u x out (at - u) rest
-
-pub inside-begin : (out : List ℕ) (u x : ℕ) → x < 2 ^ 64 → Inside out u x out u x
-inside-begin out u x h = let e : u - u ≡ 0 = omega arith in record { up = omega arith; few = omega arith; long = refl; is = rw e (begin out u x h) }
-
-module _ {before : List ℕ} {u x : ℕ} {out : List ℕ} {at rest : ℕ} (w : Inside before u x out at rest) where
-  here : u + (at - u) ≡ at
-  here = omega (arith, w .up)
-
-  pub inside-more : 128 ≤ rest → Inside before u x (set out at (rest % 128 + 128)) (at + 1) (rest / 128)
-  inside-more h =
-      let m = more (w .is) h in
-      let one : at - u + 1 ≡ at + 1 - u = omega (arith, w .up) in
-      record { up = omega (arith, w .up); few = omega (arith, w .up, m .counting .few); long = length-set out at _ ∙ w .long; is = rw (here, one) at m }
-
-  pub inside-stop : rest < 128 → u + 10 ≤ length before → length before < 2 ^ 63 → Puts (shortest x) u before (at + 1) (set out at rest)
-  inside-stop h room small =
-      let p = stop (w .is) h in
-      let one : at + 1 ≡ u + (at - u + 1) = omega (arith, w .up) in
-      record { counted = one ∙ ap (λ k. u + k) (p .size) ∙ sym (cap-small (u + length (shortest x)) (omega (arith, p .size, w .few, w .up))); stored = rw here at (p .stored) }
 
 -- ---- a char's bytes stand in front in their array
 

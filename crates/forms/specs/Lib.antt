@@ -1,3 +1,2 @@
 -- What the contracts of an item's own bytes cite.
-pub mod Bytes
 pub mod Own

@@ -12,7 +12,7 @@ use Rattle.wire.specs.Shape.{Width, w16, w32, w64, Sign, signed, unsigned, Kind
 use Rattle.wire.specs.Table.{kindOf}
 use Rattle.wire.specs.Writing.{headBytes}
 use Rattle.wire.specs.Answers.{wordsPer}
-use Rattle.forms.specs.Bytes.{Puts}
+use Rattle.output.specs.Bytes.{Puts}
 
 -- six integers in the order of their kinds
 unfoldable pub signAt : ℕ → Sign

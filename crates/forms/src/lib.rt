@@ -1,13 +1,12 @@
 // An item's own bytes: whether some value has its entry, and the bytes of one that some value has, put behind others in a lent output.
 ghost use mathlib.Core.Path.{_≡_};
 ghost use mathlib.Core.Bool.{true, false};
-ghost use mathlib.Core.List.{[], _∷_};
 ghost use Prim.Native.Nat.{_+_, _≤_};
 ghost use lib.ListN.{length};
 ghost use lib.Dec.{ltb, leb};
 ghost use Rattle.wire.specs.Tests.{both};
 ghost use Rattle.wire.specs.Shape.{bits, size, w16, w32, w64, unsigned};
-ghost use Rattle.wire.specs.Numbers.{shortest, isWord, littleBytes, inOrder};
+ghost use Rattle.wire.specs.Numbers.{isWord, littleBytes, inOrder};
 ghost use Rattle.wire.specs.Text.{isChar, charBytes};
 ghost use Rattle.wire.specs.Table.{kindOf};
 ghost use Rattle.wire.specs.Values.{isPooled};
@@ -17,107 +16,10 @@ ghost use Rattle.wire.specs.Writing.{withCount, headBytes};
 ghost use Rattle.zigzag.specs.Widths.{widthOf};
 ghost use Rattle.fixint.specs.Sizes.{orderOf};
 ghost use Rattle.utf8.specs.Contents.{contentIf};
-ghost use Rattle.forms.specs.Bytes.{cap, Places, Puts};
+ghost use Rattle.output.specs.Bytes.{Puts};
 ghost use Rattle.forms.specs.Own.{signAt, widthAt, isSome, IsLeaf, Known, JudgesLeaf, Judges, Lets, Fits, Ready, Spells, SpellsEntry};
 
-const LARGEST: usize = 0xffff_ffff_ffff_ffff;
-
-// ---- bytes
-
-// A sum that stops at the largest word. Many entries may name one part of the pool, so lengths can add up to more.
-fn add(used: usize, n: usize) -> usize
-    ensures { λ r. ⌜ r ≡ cap (used + n) ⌝ }
-{
-    if LARGEST - used < n {
-        return LARGEST;
-    }
-    used + n
-}
-
-// How many of n bytes have a place behind the first `used`, among `len` places.
-pub fn places(len: usize, used: usize, n: usize) -> usize
-    ensures { λ r. ⌜ Places len used n r ⌝ }
-{
-    if len <= used {
-        return 0;
-    }
-    let left = len - used;
-    if left < n {
-        return left;
-    }
-    n
-}
-
-// Stores bytes behind the first `used` of `out`, as far as it has places, and returns how many there are now.
-pub fn put_bytes(bytes: &[u8], out: &mut [u8], used: usize) -> usize
-    ensures { λ r. ⌜ Puts (now (bytes .entry)) used (now (out .entry)) r (now (out .exit)) ⌝ }
-{
-    let n = bytes.len();
-    let len = out.len();
-    let end = add(used, n);
-    let count = places(len, used, n);
-    let mut i: usize = 0;
-    while i < count {
-        let b = bytes[i];
-        let at = used + i;
-        out[at] = b;
-        i = i + 1;
-    }
-    end
-}
-
-fn put_byte(b: u8, out: &mut [u8], used: usize) -> usize
-    ensures { λ r. ⌜ Puts (b ∷ []) used (now (out .entry)) r (now (out .exit)) ⌝ }
-{
-    let end = add(used, 1);
-    if used < out.len() {
-        out[used] = b;
-    }
-    end
-}
-
-// A varint, where even the longest has its places.
-fn put_inside(x: u64, out: &mut [u8], used: usize) -> usize
-    requires { ⌜ used + 10 ≤ length (now out) ⌝ }
-    ensures { λ r. ⌜ Puts (shortest x) used (now (out .entry)) r (now (out .exit)) ⌝ }
-{
-    let mut at = used;
-    let mut rest = x;
-    while 128 <= rest {
-        let b = (rest % 128 + 128) as u8;
-        out[at] = b;
-        rest = rest / 128;
-        at = at + 1;
-    }
-    let b = rest as u8;
-    out[at] = b;
-    at + 1
-}
-
-// Most have all their places or, in the first pass, none; each place is tested only between the two.
-fn put_varint(x: u64, out: &mut [u8], used: usize) -> usize
-    ensures { λ r. ⌜ Puts (shortest x) used (now (out .entry)) r (now (out .exit)) ⌝ }
-{
-    let len = out.len();
-    if len <= used {
-        let size = varint::size(x);
-        return add(used, size);
-    }
-    if varint::U64::MOST <= len - used {
-        return put_inside(x, out, used);
-    }
-    let n = varint::put(out, used, x);
-    add(used, n)
-}
-
-// Bytes behind their count.
-fn put_counted(bytes: &[u8], out: &mut [u8], used: usize) -> usize
-    ensures { λ r. ⌜ Puts (withCount (now (bytes .entry))) used (now (out .entry)) r (now (out .exit)) ⌝ }
-{
-    let count = bytes.len() as u64;
-    let next = put_varint(count, out, used);
-    put_bytes(bytes, out, next)
-}
+// ---- chars, texts and bytes
 
 fn put_char(first: u64, out: &mut [u8], used: usize) -> usize
     requires { ⌜ isChar first ≡ true ⌝ }
@@ -126,7 +28,7 @@ fn put_char(first: u64, out: &mut [u8], used: usize) -> usize
     let form = utf8::char_bytes(first);
     let bytes = form.bytes;
     let len = form.len;
-    put_counted(&bytes[..len], out, used)
+    output::put_counted(&bytes[..len], out, used)
 }
 
 // A part of the pool.
@@ -136,7 +38,7 @@ fn put_part(first: u64, second: u64, pool: &[u8], out: &mut [u8], used: usize) -
 {
     let start = first as usize;
     let end = start + second as usize;
-    put_counted(&pool[start..end], out, used)
+    output::put_counted(&pool[start..end], out, used)
 }
 
 // ---- six integers, in the order of their kinds: signed of 16, 32 and 64 bits, and then unsigned
@@ -202,15 +104,15 @@ fn put_sixth(k: u8, big: bool, first: u64, out: &mut [u8], used: usize) -> usize
     match k % 3 {
         0 => {
             let a = two(first, big);
-            put_bytes(&a, out, used)
+            output::put_bytes(&a, out, used)
         }
         1 => {
             let a = four(first, big);
-            put_bytes(&a, out, used)
+            output::put_bytes(&a, out, used)
         }
         _ => {
             let a = eight(first, big);
-            put_bytes(&a, out, used)
+            output::put_bytes(&a, out, used)
         }
     }
 }
@@ -364,8 +266,8 @@ fn put_signed(number: u8, first: u64, out: &mut [u8], used: usize) -> usize
     ensures { λ r. ⌜ Spells (kindOf number) first used (now (out .entry)) r (now (out .exit)) ⌝ }
 {
     match number {
-        0 | 1 => put_byte((first % 256) as u8, out, used),
-        _ => put_varint(zigzag::zigzag(first), out, used),
+        0 | 1 => output::put_byte((first % 256) as u8, out, used),
+        _ => output::put_varint(zigzag::zigzag(first), out, used),
     }
 }
 
@@ -375,8 +277,8 @@ fn put_unsigned(number: u8, first: u64, out: &mut [u8], used: usize) -> usize
     ensures { λ r. ⌜ Spells (kindOf number) first used (now (out .entry)) r (now (out .exit)) ⌝ }
 {
     match number {
-        5 => put_byte((first % 256) as u8, out, used),
-        _ => put_varint(first, out, used),
+        5 => output::put_byte((first % 256) as u8, out, used),
+        _ => output::put_varint(first, out, used),
     }
 }
 
@@ -396,9 +298,9 @@ pub fn put_inner(number: u8, first: u64, out: &mut [u8], used: usize) -> usize
     ensures { λ r. ⌜ Spells (kindOf number) first used (now (out .entry)) r (now (out .exit)) ⌝ }
 {
     match number {
-        15 => put_byte((first % 256) as u8, out, used),
+        15 => output::put_byte((first % 256) as u8, out, used),
         18 => used,
-        _ => put_varint(first, out, used),
+        _ => output::put_varint(first, out, used),
     }
 }
 
@@ -470,9 +372,9 @@ pub fn put_ready(number: u8, first: u64, out: &mut [u8], used: usize) -> usize
     ensures { λ r. ⌜ Spells (kindOf number) first used (now (out .entry)) r (now (out .exit)) ⌝ }
 {
     match number {
-        0 | 1 => put_byte((first % 256) as u8, out, used),
-        2..=4 => put_inside(zigzag::zigzag(first), out, used),
-        5 => put_byte((first % 256) as u8, out, used),
-        _ => put_inside(first, out, used),
+        0 | 1 => output::put_byte((first % 256) as u8, out, used),
+        2..=4 => output::put_inside(zigzag::zigzag(first), out, used),
+        5 => output::put_byte((first % 256) as u8, out, used),
+        _ => output::put_inside(first, out, used),
     }
 }

@@ -7,7 +7,7 @@ use Prim.Native.Nat.{ℕ, _*_, _^_, _<_}
 use native.Mathlib.Omega.{arith}
 use lib.ListN.{length}
 use Rattle.wire.specs.Writing.{Left, Wrote, wrote, misfit, after, writeNothing, writeOn, writeThen}
-use Rattle.forms.proofs.Counting.{puts-none, puts-both}
+use Rattle.output.proofs.Counting.{puts-none, puts-both}
 use Rattle.lists.specs.declared.Put.{Put}
 use Rattle.lists.specs.declared.Put.the-variants.{Done, Misfit}
 use Rattle.lists.specs.Steps.{entries, Sure, Going, GivesBy, Gives}

@@ -22,7 +22,7 @@ use Rattle.laws.proofs.EachKind.{low-kinds, high-kinds}
 use Rattle.table.specs.declared.Stretch.{Stretch}
 use Rattle.table.specs.Parts.{followed, Falls}
 use Rattle.table.proofs.Stretches.{falls-followed, node-falls, along-followed}
-use Rattle.forms.specs.Bytes.{Puts}
+use Rattle.output.specs.Bytes.{Puts}
 use Rattle.forms.specs.Own.{isSome, IsLeaf, Known, Lets, Fits, SpellsEntry}
 use Rattle.lists.specs.declared.Entered.{Entered}
 use Rattle.lists.specs.declared.Entered.the-variants.{On, Misfit}

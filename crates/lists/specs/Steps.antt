@@ -15,7 +15,7 @@ use Rattle.laws.specs.Steps.{row}
 use Rattle.laws.specs.Tables.{nodeShape}
 use Rattle.table.specs.declared.Stretch.{Stretch}
 use Rattle.table.specs.Parts.{Falls}
-use Rattle.forms.specs.Bytes.{Puts}
+use Rattle.output.specs.Bytes.{Puts}
 use Rattle.lists.specs.declared.Put.{Put}
 use Rattle.lists.specs.declared.Put.the-variants.{Done, Misfit}
 use Rattle.lists.specs.declared.Entered.{Entered}

@@ -380,7 +380,7 @@ fn put_ints(
     while 0 < left {
         let c = table::u16_at(table, field);
         let number = table::kind_at(table, l, c);
-        let room = forms::places(out.len(), n, varint::U64::MOST);
+        let room = output::places(out.len(), n, varint::U64::MOST);
         if !forms::is_ready(number, words, i, room) {
             return Ahead {
                 at: i,

@@ -22,8 +22,8 @@ use Rattle.wire.specs.Shape.{Shape}
 use Rattle.wire.specs.Table.{check, shapeOf}
 use Rattle.wire.specs.Writing.{Wrote, wrote, misfit, after, write}
 use Rattle.wire.specs.Answers.{wordsPer, Form, form, noForm, formOf, formed, writeBy, writes, writeAnswer, outWith}
-use Rattle.forms.specs.Bytes.{cap, Puts}
-use Rattle.forms.proofs.Counting.{cap-above, cap-within}
+use Rattle.output.specs.Bytes.{cap, Puts}
+use Rattle.output.proofs.Counting.{cap-above, cap-within}
 use Rattle.lists.specs.declared.Put.{Put}
 use Rattle.lists.specs.declared.Put.the-variants as put
 use Rattle.lists.specs.Steps.{entries, Sure, Going, GivesBy, Gives}

@@ -56,7 +56,7 @@ fn write_entries(table: &[u8], l: Layout, words: &[u64], pool: &[u8], out: &mut 
                 };
             }
             if used <= SHORT {
-                forms::put_bytes(&small[..used], out, 0);
+                output::put_bytes(&small[..used], out, 0);
                 return WriteAnswer::Done { place: used };
             }
             lists::put_list(table, l, words, pool, out, true);
@@ -82,7 +82,7 @@ fn put_few(table: &[u8], l: Layout, words: &[u64], out: &mut [u8]) -> Few
             let used = front.used;
             if used <= SHORT {
                 if used <= out.len() {
-                    forms::put_bytes(&small[..used], out, 0);
+                    output::put_bytes(&small[..used], out, 0);
                     return Few::Put { used };
                 }
             }

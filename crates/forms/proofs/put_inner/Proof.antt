@@ -2,7 +2,7 @@
 -- Assumes nothing.
 use native.Mathlib.Omega.{arith}
 use borrow.Author.Needs.{needs}
-use Rattle.forms.proofs.Counting.{puts-none}
+use Rattle.output.proofs.Counting.{puts-none}
 use Rattle.forms.proofs.Spelling.{spells-option, spells-struct, spells-varint}
 use Rattle.forms.proofs.put_inner.Statement.{statement}
 use Rattle.forms.proofs.put_inner.Tie as tie

@@ -3,7 +3,7 @@
 use native.Mathlib.Omega.{arith}
 use borrow.Author.Needs.{needs}
 use Rattle.fixint.specs.Sizes.{orderOf}
-use Rattle.forms.proofs.Counting.{puts-none}
+use Rattle.output.proofs.Counting.{puts-none}
 use Rattle.forms.proofs.Spelling.{fits-char, fits-part, spells-f32, spells-f64, spells-char, spells-unit, spells-part, spells-little, spells-big}
 use Rattle.forms.proofs.put_rest.Statement.{statement}
 use Rattle.forms.proofs.put_rest.Tie as tie

@@ -1,12 +1,12 @@
--- `forms::put_bytes` meets its contract. The loop's invariant: the bytes from `i` on are left, and there is a place for each that is stored.
+-- `output::put_bytes` meets its contract. The loop's invariant: the bytes from `i` on are left, and there is a place for each that is stored.
 -- Assumes nothing.
 use mathlib.Core.Path.{refl}
 use Prim.Native.Nat.{_-_}
 use native.Mathlib.Omega.{arith}
 use borrow.Author.Needs.{needs}
-use Rattle.forms.proofs.Counting.{Putting, putting-begin, putting-next, putting-end}
-use Rattle.forms.proofs.put_bytes.Statement.{statement}
-use Rattle.forms.proofs.put_bytes.Tie as tie
+use Rattle.output.proofs.Counting.{Putting, putting-begin, putting-next, putting-end}
+use Rattle.output.proofs.put_bytes.Statement.{statement}
+use Rattle.output.proofs.put_bytes.Tie as tie
 
 abbrev Inv-loop : tie.InvT-loop
 Inv-loop bytes out₀ used n len end count i₀ out i = Putting bytes used out₀ count i out

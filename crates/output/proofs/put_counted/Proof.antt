@@ -1,11 +1,11 @@
--- `forms::put_counted` meets its contract: the count's bytes, and then the others behind them.
+-- `output::put_counted` meets its contract: the count's bytes, and then the others behind them.
 -- Assumes nothing.
 use native.Mathlib.Omega.{arith}
 use borrow.Author.Needs.{needs}
 use Rattle.wire.specs.Writing.{withCount}
-use Rattle.forms.proofs.Counting.{puts-both}
-use Rattle.forms.proofs.put_counted.Statement.{statement}
-use Rattle.forms.proofs.put_counted.Tie as tie
+use Rattle.output.proofs.Counting.{puts-both}
+use Rattle.output.proofs.put_counted.Statement.{statement}
+use Rattle.output.proofs.put_counted.Tie as tie
 
 put-varint-requires : tie.Need-put-varint-requires
 put-varint-requires c κs = search needs

@@ -13,7 +13,7 @@ use borrow.Author.Tests.{lt-ltb, le-ltb}
 use Rattle.wire.specs.Tests.{pick}
 use Rattle.laws.proofs.Splits.{by-lt}
 use Rattle.laws.proofs.Parts.{sets-append, sets-out}
-use Rattle.forms.specs.Bytes.{cap, Places, Puts}
+use Rattle.output.specs.Bytes.{cap, Places, Puts}
 
 -- ---- counts
 

@@ -1,12 +1,12 @@
--- `forms::put_inside` meets its contract: the loop's invariant is that of `varint::put`.
+-- `output::put_inside` meets its contract: the loop's invariant is that of `varint::put`.
 -- Assumes nothing.
 use mathlib.Core.Path.{_∙_}
 use Prim.Native.Nat.{ℕ}
 use native.Mathlib.Omega.{arith}
 use lib.ListN.{length-set}
-use Rattle.forms.proofs.Spelling.{Inside, inside-begin, inside-more, inside-stop}
-use Rattle.forms.proofs.put_inside.Statement.{statement}
-use Rattle.forms.proofs.put_inside.Tie as tie
+use Rattle.output.proofs.Varints.{Inside, inside-begin, inside-more, inside-stop}
+use Rattle.output.proofs.put_inside.Statement.{statement}
+use Rattle.output.proofs.put_inside.Tie as tie
 
 abbrev Inv-loop : tie.InvT-loop
 Inv-loop x out₀ used at₀ rest₀ out at rest = Inside out₀ used x out at rest

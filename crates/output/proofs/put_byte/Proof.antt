@@ -1,11 +1,11 @@
--- `forms::put_byte` meets its contract: a byte that has no place is dropped.
+-- `output::put_byte` meets its contract: a byte that has no place is dropped.
 -- Assumes nothing.
 use mathlib.Core.Path.{sym}
 use native.Mathlib.Omega.{arith}
 use lib.Seq.{set-out}
 use borrow.Author.Needs.{needs}
-use Rattle.forms.proofs.put_byte.Statement.{statement}
-use Rattle.forms.proofs.put_byte.Tie as tie
+use Rattle.output.proofs.put_byte.Statement.{statement}
+use Rattle.output.proofs.put_byte.Tie as tie
 
 add-requires : tie.Need-add-requires
 add-requires c κs = search needs

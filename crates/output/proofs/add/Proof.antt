@@ -1,11 +1,11 @@
--- `forms::add` meets its contract, by whether the sum is below 2^64.
+-- `output::add` meets its contract, by whether the sum is below 2^64.
 -- Assumes nothing.
 use mathlib.Core.Path.{sym}
 use native.Mathlib.Omega.{arith}
 use borrow.Author.Needs.{needs}
-use Rattle.forms.proofs.Counting.{cap-small, cap-large}
-use Rattle.forms.proofs.add.Statement.{statement}
-use Rattle.forms.proofs.add.Tie as tie
+use Rattle.output.proofs.Counting.{cap-small, cap-large}
+use Rattle.output.proofs.add.Statement.{statement}
+use Rattle.output.proofs.add.Tie as tie
 
 sub-if1 : tie.Need-sub-if1
 sub-if1 c = search needs

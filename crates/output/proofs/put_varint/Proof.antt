@@ -1,11 +1,11 @@
--- `forms::put_varint` meets its contract: no place, a place for every byte, or what `varint::put` stores.
+-- `output::put_varint` meets its contract: no place, a place for every byte, or what `varint::put` stores.
 -- Assumes nothing.
 use native.Mathlib.Omega.{arith}
 use borrow.Author.Needs.{needs}
-use Rattle.forms.proofs.Counting.{puts-beyond}
-use Rattle.forms.proofs.Spelling.{puts-varint}
-use Rattle.forms.proofs.put_varint.Statement.{statement}
-use Rattle.forms.proofs.put_varint.Tie as tie
+use Rattle.output.proofs.Counting.{puts-beyond}
+use Rattle.output.proofs.Varints.{puts-varint}
+use Rattle.output.proofs.put_varint.Statement.{statement}
+use Rattle.output.proofs.put_varint.Tie as tie
 
 size-requires : tie.Need-size-requires
 size-requires c κs = search needs

@@ -1,0 +1,2 @@
+-- What the contracts of bytes behind others cite.
+pub mod Bytes

@@ -1,25 +1,21 @@
--- Laying a run: entries in front of it are laid first, and what comes behind it is laid from where it was left.
+-- Where a run was left, as an answer; and what comes behind a run is laid from there.
 -- Assumes nothing.
 use mathlib.Core.Path.{_≡_, refl, ap, _∙_}
-use mathlib.Core.List.{List, [], _∷_, _++_}
+use mathlib.Core.List.{List, [], _∷_}
 use Prim.Native.Nat.{ℕ, suc, _+_, _-_, _*_, _≤_, _<_}
-use native.Mathlib.Nat.{add-zero, add-assoc}
 use native.Mathlib.Omega.{arith}
-use lib.ListN.{length, length-append}
-use lib.Seq.{sets, length-sets}
+use lib.ListN.{length}
+use lib.Seq.{sets}
 use Rattle.wire.specs.declared.Refusal.{Refusal}
 use Rattle.wire.specs.declared.Refusal.the-variants.{Room}
+use Rattle.wire.specs.declared.ReadAnswer.the-variants.{Done, Refused}
 use Rattle.wire.specs.Values.{Entry}
 use Rattle.wire.specs.Reading.{Spot, Outcome, reached, refused, Run, behind, readNothing, readOn, readThen, within, fit}
-use Rattle.wire.specs.declared.ReadAnswer.the-variants.{Done, Refused}
-use Rattle.wire.specs.Answers.{readAnswer, wordsPer, words, wordsOf, roomOf}
-use Rattle.laws.proofs.Parts.{sets-append}
+use Rattle.wire.specs.Answers.{readAnswer, wordsPer, words, roomOf}
 use Rattle.laws.proofs.Runs.{fit-then}
-use Rattle.laws.proofs.Places.{length-words}
-use Rattle.reader.specs.Lay.{Left, laid, lay, Gives}
-
-abbrev pub left : Outcome → ℕ → List ℕ → Left
-left end n s = record { ends = end; count = n; store = s }
+use Rattle.items.specs.Lay.{Left, laid, lay}
+use Rattle.items.proofs.Laying.{left, laid-none, laid-behind, room-sets}
+use Rattle.reader.specs.Steps.{Gives}
 
 -- ---- where a run was left, as an answer
 
@@ -31,34 +27,11 @@ pub gives-done : {w : Left} (x : Spot) {m : ℕ} {s : List ℕ} → w ≡ left (
 unfolding readAnswer
 gives-done x e = rw e (record { answered = refl; stored = refl })
 
--- ---- no entries, and entries in front
-
-pub laid-none : (o : Outcome) (m : ℕ) (s : List ℕ) → laid (record { made = []; ends = o }) m s ≡ left o m s
-unfolding laid words
-laid-none o m s = rw (add-zero m)
+-- ---- one run behind another
 
 pub lay-nothing : (x : Spot) (m : ℕ) (s : List ℕ) → lay (readNothing x) m s ≡ left (reached x) m s
 unfolding lay fit within readNothing
 lay-nothing x m s = laid-none (reached x) m s
-
-words-append : (es fs : List Entry) → words (es ++ fs) ≡ words es ++ words fs
-unfolding words wordsOf
-words-append [] fs = refl
-words-append (e ∷ es) fs = rw (words-append es fs)
-
-pub laid-behind : (es : List Entry) (r : Run) (m : ℕ) (s : List ℕ)
-    → laid (behind es r) m s ≡ laid r (m + length es) (sets s (wordsPer * m) (words es))
-unfolding laid behind
-laid-behind es r m s =
-    let at : wordsPer * (m + length es) ≡ wordsPer * m + length (words es) = omega (arith, length-words es) in
-    rw (at, sets-append s (wordsPer * m) (words es) (words (r .made)), words-append es (r .made), length-append es (r .made), add-assoc m (length es) (length (r .made)))
-
--- ---- one run behind another
-
--- stores do not change a store's room
-pub room-sets : (s : List ℕ) (i : ℕ) (ws : List ℕ) → roomOf (sets s i ws) ≡ roomOf s
-unfolding roomOf
-room-sets s i ws = rw (length-sets s i ws)
 
 -- what g makes of where a run was left
 abbrev pub onBy : Outcome → Left → (Spot → Run) → Left

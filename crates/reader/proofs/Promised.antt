@@ -28,10 +28,11 @@ use Rattle.laws.proofs.Tables.{good-table}
 use Rattle.laws.proofs.Unique.{by-equation}
 use Rattle.table.proofs.Stretches.{root-number}
 use Rattle.table.specs.declared.Way.{Way}
+use Rattle.items.specs.Lay.{laid, lay}
+use Rattle.items.specs.Steps.{readRow, headed, readRounds}
 use Rattle.reader.proofs.Rounds.{Reading}
 use Rattle.reader.proofs.Turns.{flat-rounds}
-use Rattle.reader.specs.Lay.{laid, lay, Gives}
-use Rattle.reader.specs.Steps.{readRow, headed, readRounds}
+use Rattle.reader.specs.Steps.{Gives}
 use Rattle.reader.specs.Promise.{Reads, RestIsLeft, OneReading, OneRest}
 
 -- ---- the store

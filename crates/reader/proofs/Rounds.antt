@@ -18,10 +18,11 @@ use Rattle.laws.proofs.Runs.{then-nothing}
 use Rattle.table.specs.declared.Way.{Way}
 use Rattle.table.specs.Parts.{Falls, Flat, under}
 use Rattle.table.proofs.Stretches.{flat-falls, flat-same}
+use Rattle.items.specs.Lay.{Left, lay}
+use Rattle.items.specs.Steps.{spot, readRow, headed}
 use Rattle.reader.specs.declared.Begun.{Begun}
 use Rattle.reader.specs.declared.Begun.the-variants.{At, Full}
-use Rattle.reader.specs.Lay.{Left, lay, Gives}
-use Rattle.reader.specs.Steps.{spot, readRow, headed, Begins, bare, put, full}
+use Rattle.reader.specs.Steps.{Gives, Begins, bare, put, full}
 use Rattle.reader.proofs.Laying.{lay-entry, lay-full, gives-refused}
 
 -- ---- a stretch of one struct

@@ -24,15 +24,16 @@ use Rattle.laws.proofs.Runs.{fit-reached}
 use Rattle.leaf.specs.Leaves.{takeAt}
 use Rattle.table.specs.declared.Stretch.{Stretch}
 use Rattle.table.specs.declared.Way.{Way}
-use Rattle.reader.specs.declared.Entered.{Entered}
-use Rattle.reader.specs.declared.Entered.the-variants.{On}
-use Rattle.reader.specs.declared.Entered.the-variants as entered
-use Rattle.reader.specs.Lay.{Left, laid, lay, Gives}
-use Rattle.reader.specs.Steps.{spot, readNode, readRow, headed, readRounds, Puts, entry, same, Goes, Enters, goes, stops}
-use Rattle.reader.proofs.Entering.{Found, number-small, leads-nowhere, enters-refused, goes-on}
-use Rattle.reader.proofs.Heads.{head-leaf}
+use Rattle.items.specs.declared.Entered.{Entered}
+use Rattle.items.specs.declared.Entered.the-variants.{On}
+use Rattle.items.specs.declared.Entered.the-variants as entered
+use Rattle.items.specs.Lay.{Left, laid, lay}
+use Rattle.items.specs.Steps.{spot, readNode, readRow, headed, readRounds, Puts, entry, same, Goes, Enters, goes, stops}
+use Rattle.items.proofs.Entering.{Found, number-small, leads-nowhere, enters-refused, goes-on}
+use Rattle.items.proofs.Heads.{head-leaf}
+use Rattle.reader.specs.Steps.{Gives}
 use Rattle.reader.proofs.Rounds.{Reading}
-use Rattle.reader.proofs.Laying.{left, gives-refused, gives-done, lay-nothing, onBy, lay-then}
+use Rattle.reader.proofs.Laying.{gives-refused, gives-done, lay-nothing, onBy, lay-then}
 
 -- ---- a call, and then more
 

@@ -14,16 +14,16 @@ use Rattle.table.specs.Parts.{Falls}
 use Rattle.table.proofs.Stretches.{falls-first, falls-next, flat-falls}
 use Rattle.table.proofs.kind_at.Reads as kind-at-reads
 use Rattle.table.proofs.u16_at.Reads as u16-at-reads
-use Rattle.reader.specs.Lay.{lay}
-use Rattle.reader.specs.Steps.{spot, readRow, readRounds}
-use Rattle.reader.proofs.Entering.{enters-full}
+use Rattle.items.specs.Lay.{lay}
+use Rattle.items.specs.Steps.{spot, readRow, readRounds}
+use Rattle.items.proofs.Entering.{enters-full}
+use Rattle.items.proofs.enter.Reads as enter-reads
+use Rattle.items.proofs.read_leaf.Reads as read-leaf-reads
 use Rattle.reader.proofs.Laying.{gives-refused}
 use Rattle.reader.proofs.Rounds.{flat-reads, begun-full, begun-at}
 use Rattle.reader.proofs.Turns.{Went, item-goes, item-refused, item-end, item-on, leaf-gives, turn-refused, turned, row-end, row-first, rounds-end, rounds-first, node-steady, row-steady}
 use Rattle.reader.proofs.begin.Reads as begin-reads
-use Rattle.reader.proofs.enter.Reads as enter-reads
 use Rattle.table.proofs.flat.Reads as flat-calls
-use Rattle.reader.proofs.read_leaf.Reads as read-leaf-reads
 use Rattle.reader.proofs.read_inner.Reads as read-inner
 use Rattle.reader.proofs.read_inner.Kinds as read-inner-kinds
 use Rattle.reader.proofs.+read_inner+read_item+read_rounds+read_stretch.Lts-read_inner as read-inner-lts

@@ -1,11 +1,11 @@
--- `reader::enter` meets its contract, by what it finds: a refusal, or an item that is taken.
+-- `items::enter` meets its contract, by what it finds: a refusal, or an item that is taken.
 -- Assumes nothing.
 use native.Mathlib.Omega.{arith}
 use borrow.Author.Needs.{needs}
-use Rattle.reader.specs.Steps.{goes, stops}
-use Rattle.reader.proofs.Entering.{Found, after-inside, leads, own-known, enters-refused, goes-on}
-use Rattle.reader.proofs.enter.Statement.{statement}
-use Rattle.reader.proofs.enter.Tie as tie
+use Rattle.items.specs.Steps.{goes, stops}
+use Rattle.items.proofs.Entering.{Found, after-inside, leads, own-known, enters-refused, goes-on}
+use Rattle.items.proofs.enter.Statement.{statement}
+use Rattle.items.proofs.enter.Tie as tie
 
 child-count-requires : tie.Need-child-count-requires
 child-count-requires c κs = search needs

@@ -1,9 +1,9 @@
--- `reader::by_call` meets its contract: the item is the leaf's own.
+-- `items::by_call` meets its contract: the item is the leaf's own.
 -- Assumes nothing.
 use mathlib.Core.Path.{_∙_}
 use borrow.Author.Needs.{needs}
-use Rattle.reader.proofs.by_call.Statement.{statement}
-use Rattle.reader.proofs.by_call.Tie as tie
+use Rattle.items.proofs.by_call.Statement.{statement}
+use Rattle.items.proofs.by_call.Tie as tie
 
 take-requires : tie.Need-take-requires
 take-requires c κs = search needs

@@ -1,4 +1,4 @@
--- `reader::leaf_bytes` meets its contract: the integers, number by number, and every other kind.
+-- `items::leaf_bytes` meets its contract: the integers, number by number, and every other kind.
 -- Assumes nothing.
 use mathlib.Core.Path.{sym, ap, _∙_}
 use native.Mathlib.Omega.{arith}
@@ -9,9 +9,9 @@ use Rattle.laws.proofs.Items.{on-unsigned}
 use Rattle.varint.proofs.Reading.{at-width}
 use Rattle.fixint.specs.Sizes.{byteOf}
 use Rattle.leaf.proofs.Leaves.{numbered}
-use Rattle.reader.proofs.Heads.{low-number}
-use Rattle.reader.proofs.leaf_bytes.Statement.{statement}
-use Rattle.reader.proofs.leaf_bytes.Tie as tie
+use Rattle.items.proofs.Heads.{low-number}
+use Rattle.items.proofs.leaf_bytes.Statement.{statement}
+use Rattle.items.proofs.leaf_bytes.Tie as tie
 
 take8-requires : tie.Need-take8-requires
 take8-requires c κs = search needs

@@ -26,10 +26,10 @@ use Rattle.laws.proofs.Numbering.{kind-below}
 use Rattle.table.specs.declared.Stretch.{Stretch}
 use Rattle.table.specs.Parts.{Falls, followed}
 use Rattle.table.proofs.Stretches.{node-falls, falls-followed, along-followed}
-use Rattle.reader.specs.Lay.{laid, lay}
-use Rattle.reader.specs.Steps.{spot, readNode, readRow, headed, readRounds, Goes}
-use Rattle.reader.proofs.Heads.{outer-kinds}
-use Rattle.reader.proofs.Laying.{left, laid-none, laid-behind, room-sets}
+use Rattle.items.specs.Lay.{laid, lay}
+use Rattle.items.specs.Steps.{spot, readNode, readRow, headed, readRounds, Goes}
+use Rattle.items.proofs.Heads.{outer-kinds}
+use Rattle.items.proofs.Laying.{left, laid-none, laid-behind, room-sets}
 
 -- the number of a node's kind, and how many children it has
 pub record Found (s : List ℕ) (l : Layout) (i number n : ℕ) : Type 0 where

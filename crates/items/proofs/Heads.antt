@@ -25,7 +25,7 @@ use Rattle.laws.proofs.Bounds.{head-fits}
 use Rattle.laws.proofs.EachKind.{end, _&_, in-kinds, low-kinds, high-kinds}
 use Rattle.leaf.specs.Leaves.{isLeaf, takeAt}
 use Rattle.leaf.proofs.Leaves.{low-leaf, high-leaf, is-leaf}
-use Rattle.reader.specs.Steps.{Puts, entry, same}
+use Rattle.items.specs.Steps.{Puts, entry, same}
 
 -- ---- a variant's number
 

@@ -1,11 +1,11 @@
--- `reader::read_leaf` meets its contract, by the leaf's own item.
+-- `items::read_leaf` meets its contract, by the leaf's own item.
 -- Assumes nothing.
 use mathlib.Core.Path.{sym, _∙_}
 use native.Mathlib.Omega.{arith}
 use borrow.Author.Needs.{needs}
-use Rattle.reader.proofs.Heads.{leaf-inside, puts-entry, puts-same}
-use Rattle.reader.proofs.read_leaf.Statement.{statement}
-use Rattle.reader.proofs.read_leaf.Tie as tie
+use Rattle.items.proofs.Heads.{leaf-inside, puts-entry, puts-same}
+use Rattle.items.proofs.read_leaf.Statement.{statement}
+use Rattle.items.proofs.read_leaf.Tie as tie
 
 leaf-bytes-requires : tie.Need-leaf-bytes-requires
 leaf-bytes-requires c κs = search needs

@@ -1,4 +1,4 @@
--- `reader::head_bytes` meets its contract, by the numbers of the match.
+-- `items::head_bytes` meets its contract, by the numbers of the match.
 -- Assumes nothing.
 use mathlib.Core.Path.{ap, _∙_}
 use native.Mathlib.Omega.{arith}
@@ -7,9 +7,9 @@ use Rattle.wire.specs.Shape.{w64}
 use Rattle.wire.specs.Numbers.{most, last}
 use Rattle.wire.specs.Reading.{known}
 use Rattle.varint.proofs.Reading.{at-width}
-use Rattle.reader.proofs.Heads.{head-option, head-count, head-struct, head-enum}
-use Rattle.reader.proofs.head_bytes.Statement.{statement}
-use Rattle.reader.proofs.head_bytes.Tie as tie
+use Rattle.items.proofs.Heads.{head-option, head-count, head-struct, head-enum}
+use Rattle.items.proofs.head_bytes.Statement.{statement}
+use Rattle.items.proofs.head_bytes.Tie as tie
 
 take-flag-requires : tie.Need-take-flag-requires
 take-flag-requires c κs = search needs

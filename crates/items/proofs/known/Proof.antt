@@ -1,10 +1,10 @@
--- `reader::known` meets its contract: a refusal is handed up, and a variant's number is tested.
+-- `items::known` meets its contract: a refusal is handed up, and a variant's number is tested.
 -- Assumes nothing.
 use native.Mathlib.Omega.{arith}
 use borrow.Author.Needs.{needs}
-use Rattle.reader.proofs.Heads.{known-refused, known-good, known-not}
-use Rattle.reader.proofs.known.Statement.{statement}
-use Rattle.reader.proofs.known.Tie as tie
+use Rattle.items.proofs.Heads.{known-refused, known-good, known-not}
+use Rattle.items.proofs.known.Statement.{statement}
+use Rattle.items.proofs.known.Tie as tie
 
 enum-known-got : tie.Need-enum-known-got
 enum-known-got c = search needs

@@ -1,12 +1,12 @@
--- `reader::put_entry` meets its contract: both words stand in the store.
+-- `items::put_entry` meets its contract: both words stand in the store.
 -- Assumes nothing.
 use mathlib.Core.Path.{refl}
 use native.Mathlib.Numerals.{add-one}
 use native.Mathlib.Omega.{arith}
 use lib.ListN.{length-set}
 use borrow.Author.Needs.{needs}
-use Rattle.reader.proofs.put_entry.Statement.{statement}
-use Rattle.reader.proofs.put_entry.Tie as tie
+use Rattle.items.proofs.put_entry.Statement.{statement}
+use Rattle.items.proofs.put_entry.Tie as tie
 
 mul-at : tie.Need-mul-at
 mul-at c = search needs

@@ -1,13 +1,11 @@
 -- Laying a run's entries into a lent store, behind those that are there already.
 -- Assumes nothing.
-use mathlib.Core.Path.{_≡_}
 use mathlib.Core.List.{List}
 use Prim.Native.Nat.{ℕ, _+_, _-_, _*_}
 use lib.ListN.{length}
 use lib.Seq.{sets}
-use Rattle.wire.specs.declared.ReadAnswer.{ReadAnswer}
 use Rattle.wire.specs.Reading.{Outcome, Run, fit}
-use Rattle.wire.specs.Answers.{wordsPer, words, roomOf, readAnswer}
+use Rattle.wire.specs.Answers.{wordsPer, words, roomOf}
 
 -- how a run ends, the entries that the store has then, and the store
 pub record Left : Type 0 where
@@ -22,8 +20,3 @@ laid r m s = record { ends = r .ends; count = m + length (r .made); store = sets
 -- as many of them as the store has room for
 unfoldable pub lay : Run → ℕ → List ℕ → Left
 lay r m s = laid (fit (roomOf s - m) r) m s
-
--- a function's answer, and its store as it returns
-pub record Gives (w : Left) (a : ReadAnswer) (s : List ℕ) : Type 0 where
-  pub answered : a ≡ readAnswer (w .ends) (w .count)
-  pub stored : s ≡ w .store

@@ -5,7 +5,7 @@ use wire::Layout;
 use wire::Refusal;
 use wire::WriteAnswer;
 ghost use mathlib.Core.Path.{_≡_};
-ghost use Prim.Native.Nat.{_/_, _%_, _<_};
+ghost use Prim.Native.Nat.{_%_};
 ghost use lib.ListN.{length};
 ghost use Rattle.wire.specs.declared.Checked.the-variants.{Good};
 ghost use Rattle.wire.specs.Table.{shapeOf};

@@ -1,2 +1,3 @@
+-- What the contracts of an item and its entry cite.
 pub mod Lay
 pub mod Steps

@@ -19,7 +19,7 @@ use Rattle.lists.specs.Steps.{entries, writeNode, writeRow, writeRounds,
 use Rattle.lists.proofs.Entries.{entryAt}
 use Rattle.lists.proofs.Going.{going-begin, going-end, first-done}
 use Rattle.lists.proofs.Nodes.{start-going, leaf-starts, node-leaf}
-use Rattle.lists.proofs.Rounds.{Writing, stretch-none, rounds-none, rounds-first, flat-rounds, root-once}
+use Rattle.lists.proofs.Rounds.{SameWriting, stretch-none, rounds-none, rounds-first, flat-rounds, root-once}
 
 -- the entry e, of the node i with the kind's number k
 pub ready-gives : {s : List ℕ} {l : Layout} {i : ℕ} → GoodTable s l → i < l .nodes → {k : ℕ} → k ≡ nodeAt s (recordOf l i) .number → {ws : List ℕ} {e room : ℕ} → Fitting k ws e room
@@ -29,7 +29,7 @@ ready-gives good below {k} ek {ws} {e} f puts pool =
     let leaf : IsLeaf k = record { small = omega (arith, f .low); outer = λ lo hi. omega (arith, f .low) } in
     rw (node-leaf good below pool ws e ek leaf) (going-end (start-going (leaf-starts (kindOf k) pool ws e (f .more)) (f .fits pool) (λ bs q. puts .with pool _ .puts 0 q)) refl)
 
-module _ {s : List ℕ} {l : Layout} (good : check s ≡ Good l) {at : ℕ} (place : at + 4 ≡ length s) {way : Way} (f : Writing s l (l .nodes) at 1 way)
+module _ {s : List ℕ} {l : Layout} (good : check s ≡ Good l) {at : ℕ} (place : at + 4 ≡ length s) {way : Way} (f : SameWriting s l (l .nodes) at 1 way)
     {ws : List ℕ} {r : Begun} (b : Begins (way .headed) ws 0 r) {start : ℕ} (q : r ≡ At start)
     {before : List ℕ} (small : length before < 2 ^ 63) {on : Ahead} {out : List ℕ} (led : Leads s l (way .from) (way .width) ws start before on out) where
   module _ (z : on .left ≡ 0) (pool : List ℕ) where

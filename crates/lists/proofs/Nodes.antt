@@ -20,13 +20,13 @@ use Rattle.laws.proofs.Heads.{written-known}
 use Rattle.laws.proofs.Children.{walk-node}
 use Rattle.laws.proofs.EachKind.{low-kinds, high-kinds}
 use Rattle.table.specs.declared.Stretch.{Stretch}
-use Rattle.table.specs.Parts.{followed, Falls}
+use Rattle.table.specs.Parts.{followed, Falls, under}
 use Rattle.table.proofs.Stretches.{falls-followed, node-falls, along-followed}
 use Rattle.output.specs.Bytes.{Puts}
 use Rattle.forms.specs.Own.{isSome, IsLeaf, Known, Lets, Fits, SpellsEntry}
 use Rattle.lists.specs.declared.Entered.{Entered}
 use Rattle.lists.specs.declared.Entered.the-variants.{On, Misfit}
-use Rattle.lists.specs.Steps.{entries, writeLeaf, writeNode, writeRow, headed, writeRounds, Sure, Going, Goes, Enters}
+use Rattle.lists.specs.Steps.{entries, writeLeaf, writeNode, writeRow, writeRounds, Sure, Going, Goes, Enters}
 use Rattle.lists.proofs.Entries.{entryAt, entries-none, entries-more}
 use Rattle.lists.proofs.Going.{then-nothing}
 
@@ -146,7 +146,7 @@ module _ {s : List ℕ} {l : Layout} {i : ℕ} (good : GoodTable s l) (below : i
 
           pub node-goes : {u m : ℕ} {before out : List ℕ} {to : Stretch} → SpellsEntry (kindOf k) pool (entryAt ws e .first) (entryAt ws e .second) u before m out
               → to ≡ followed (following (kindOf k) (entryAt ws e .first)) from n → Goes (writeNode s l pool i (entries ws e)) s l pool i ws e u before to m out
-          unfolding writeRounds headed writeRow
+          unfolding writeRounds under writeRow
           node-goes puts goes =
               rw goes
               (record {

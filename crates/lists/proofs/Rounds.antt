@@ -66,28 +66,23 @@ module _ (s : List ℕ) (l : Layout) (pool : List ℕ) (c : ℕ) (h : Bool) (fro
 
 -- ---- a stretch of one struct
 
-under-headed : (pool : List ℕ) (h : Bool) (n : ℕ) (f : Left → Wrote) (x : Left) → under (writing pool) h n f x ≡ headed h pool n f x
-unfolding under headed
-under-headed pool true n f x = refl
-under-headed pool false n f x = refl
-
 -- numbers below i, and a way that is the same step
-pub record Writing (s : List ℕ) (l : Layout) (i from n : ℕ) (way : Way) : Type 0 where
+pub record SameWriting (s : List ℕ) (l : Layout) (i from n : ℕ) (way : Way) : Type 0 where
   pub falls : Falls s (way .from) (way .width) i
   pub same : (pool : List ℕ) → writeRow s l pool from n ≡ headed (way .headed) pool (way .width) (writeRow s l pool (way .from) (way .width))
 
-pub flat-writes : {s : List ℕ} {l : Layout} {i from n : ℕ} {way : Way} → GoodTable s l → i ≤ l .nodes → Flat s l i from n way → Writing s l i from n way
+pub flat-writes : {s : List ℕ} {l : Layout} {i from n : ℕ} {way : Way} → GoodTable s l → i ≤ l .nodes → Flat s l i from n way → SameWriting s l i from n way
 unfolding writeRow
 flat-writes g h f =
-    record { falls = flat-falls g h f; same = λ pool. fun-ext (λ x. flat-same g h (writing pool) then-nothing f x ∙ under-headed pool _ _ _ x) }
+    record { falls = flat-falls g h f; same = λ pool. fun-ext (λ x. flat-same g h (writing pool) then-nothing f x) }
 
 -- so often
-pub flat-rounds : {s : List ℕ} {l : Layout} {i from n : ℕ} {way : Way} → Writing s l i from n way → (pool : List ℕ) (c : ℕ) (x : Left)
+pub flat-rounds : {s : List ℕ} {l : Layout} {i from n : ℕ} {way : Way} → SameWriting s l i from n way → (pool : List ℕ) (c : ℕ) (x : Left)
     → writeRounds s l pool c false from n x ≡ writeRounds s l pool c (way .headed) (way .from) (way .width) x
-unfolding writeRounds headed
+unfolding writeRounds under
 flat-rounds f pool c x = ap (λ g. times (writing pool) c g x) (f .same pool)
 
-module _ {s : List ℕ} {l : Layout} {i from n : ℕ} {way : Way} (f : Writing s l i from n way) (pool : List ℕ) (c : ℕ) (x : Left) where
+module _ {s : List ℕ} {l : Layout} {i from n : ℕ} {way : Way} (f : SameWriting s l i from n way) (pool : List ℕ) (c : ℕ) (x : Left) where
   pub flat-sure : {judged : Bool} → Sure judged (writeRounds s l pool c false from n x) → Sure judged (writeRounds s l pool c (way .headed) (way .from) (way .width) x)
   flat-sure h = rw (← (flat-rounds f pool c x)) h
 
@@ -98,7 +93,7 @@ module _ {s : List ℕ} {l : Layout} {i from n : ℕ} {way : Way} (f : Writing s
 -- the whole shape is the root's node, once
 pub root-once : (s : List ℕ) {l : Layout} → check s ≡ Good l → (at : ℕ) → at + 4 ≡ length s → (pool : List ℕ) (x : Left)
     → writeRounds s l pool 1 false at 1 x ≡ write (shapeOf s l) pool x
-unfolding writeRounds headed writeRow write
+unfolding writeRounds under writeRow write
 root-once s {l} good at place pool x =
     row-once (writing pool) (nodeShape s l) s then-nothing at x ∙ ap (λ i. write (nodeShape s l i) pool x) (root-number s good at place)
     ∙ ap (λ t. write t pool x) (sym (good-table s l good .its-shape))
@@ -106,18 +101,18 @@ root-once s {l} good at place pool x =
 -- ---- the entry that heads a round
 
 pub begins-bare : (ws : List ℕ) (at : ℕ) → Begins false ws at (At at)
-unfolding headed
+unfolding under
 begins-bare ws at = record { holds = λ pool n f. refl }
 
 module _ (ws : List ℕ) (at : ℕ) where
   pub begins-end : length ws / wordsPer ≤ at → Begins true ws at Misfit
-  unfolding headed writeItem writeEntry
+  unfolding under writeItem writeEntry
   begins-end z = record { holds = λ pool n f. ap (writeItem pool struct n (λ a. f)) (entries-none ws at z) }
 
   module _ (left : at < length ws / wordsPer) where
     struct-starts : (pool : List ℕ) (n : ℕ) (f : Left → Wrote)
         → Starts (headed true pool n f (entries ws at)) (single (eqb (entryAt ws at .first) 0) (entryAt ws at .second) []) (f (entries ws (at + 1))) at
-    unfolding headed headBytes
+    unfolding under headBytes
     struct-starts pool n f = item-starts struct n pool (λ a. f) ws at left
 
     pub begins-first : (entryAt ws at .first ≡ 0 → ⊥) → Begins true ws at Misfit

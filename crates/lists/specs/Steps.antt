@@ -14,7 +14,7 @@ use Rattle.wire.specs.Answers.{wordsPer, entriesOf}
 use Rattle.laws.specs.Steps.{row}
 use Rattle.laws.specs.Tables.{nodeShape}
 use Rattle.table.specs.declared.Stretch.{Stretch}
-use Rattle.table.specs.Parts.{Falls}
+use Rattle.table.specs.Parts.{Falls, under}
 use Rattle.output.specs.Bytes.{Puts}
 use Rattle.lists.specs.declared.Put.{Put}
 use Rattle.lists.specs.declared.Put.the-variants.{Done, Misfit}
@@ -39,9 +39,8 @@ unfoldable pub writeRow : List ℕ → Layout → (pool : List ℕ) → (from n 
 writeRow s l pool from n = row (writing pool) (shapesAt (nodeShape s l) s from n)
 
 -- a step as it stands, or as that of a struct's n fields
-unfoldable pub headed : Bool → (pool : List ℕ) → (n : ℕ) → (Left → Wrote) → Left → Wrote
-headed true pool n f = writeItem pool struct n (λ a. f)
-headed false pool n f = f
+abbrev pub headed : Bool → (pool : List ℕ) → (n : ℕ) → (Left → Wrote) → Left → Wrote
+headed h pool n f = under (writing pool) h n f
 
 -- such a row so many times over
 unfoldable pub writeRounds : List ℕ → Layout → (pool : List ℕ) → (rounds : ℕ) (h : Bool) (from n : ℕ) → Left → Wrote

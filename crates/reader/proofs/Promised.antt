@@ -30,7 +30,7 @@ use Rattle.table.proofs.Stretches.{root-number}
 use Rattle.table.specs.declared.Way.{Way}
 use Rattle.items.specs.Lay.{laid, lay}
 use Rattle.items.specs.Steps.{readRow, headed, readRounds}
-use Rattle.reader.proofs.Rounds.{Reading}
+use Rattle.reader.proofs.Rounds.{SameReading}
 use Rattle.reader.proofs.Turns.{flat-rounds}
 use Rattle.reader.specs.Steps.{Gives}
 use Rattle.reader.specs.Promise.{Reads, RestIsLeft, OneReading, OneRest}
@@ -66,7 +66,7 @@ module _ (table message store : List ℕ) where
   unfolding reads readBy readAnswer storeWith words
   reads-bad h = rw h (record { answered = refl; stored = refl })
 
-  pub reads-good : {l : Layout} {way : Way} {a : ReadAnswer} {st : List ℕ} (at : ℕ) → check table ≡ Good l → at + 4 ≡ length table → Reading table l (l .nodes) at 1 way
+  pub reads-good : {l : Layout} {way : Way} {a : ReadAnswer} {st : List ℕ} (at : ℕ) → check table ≡ Good l → at + 4 ≡ length table → SameReading table l (l .nodes) at 1 way
       → Gives (lay (readRounds table l 1 (way .headed) (way .from) (way .width) (front message)) 0 store) a st → Reads (reads table message store) store a st
   unfolding reads readBy readRounds headed readRow read
   reads-good {l} at h e f g =

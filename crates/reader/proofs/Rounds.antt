@@ -34,11 +34,11 @@ under-headed true n f x = rw (add-zero (x .place))
 under-headed false n f x = refl
 
 -- numbers below i, and a way that reads the same
-pub record Reading (s : List ℕ) (l : Layout) (i from n : ℕ) (way : Way) : Type 0 where
+pub record SameReading (s : List ℕ) (l : Layout) (i from n : ℕ) (way : Way) : Type 0 where
   pub falls : Falls s (way .from) (way .width) i
   pub same : readRow s l from n ≡ headed (way .headed) (readRow s l (way .from) (way .width))
 
-pub flat-reads : {s : List ℕ} {l : Layout} {i from n : ℕ} {way : Way} → GoodTable s l → i ≤ l .nodes → Flat s l i from n way → Reading s l i from n way
+pub flat-reads : {s : List ℕ} {l : Layout} {i from n : ℕ} {way : Way} → GoodTable s l → i ≤ l .nodes → Flat s l i from n way → SameReading s l i from n way
 unfolding readRow
 flat-reads g h f =
     record { falls = flat-falls g h f; same = fun-ext (λ x. flat-same g h (reading head) then-nothing f x ∙ under-headed _ _ _ x) }

@@ -1,2 +1,3 @@
+-- What the contracts of the cycle cite, and what is promised of the public calls.
 pub mod Steps
 pub mod Promise

@@ -1,9 +1,9 @@
 // The accident that the append question prevents: a new table puts a field in front, and the old one reads other numbers
 // without an error. The same field at the end does no harm.
+use say::say;
+use say::say_number;
 use wire::AskAnswer;
 use wire::ReadAnswer;
-use words::say;
-use words::say_number;
 
 fn say_counted(text: &[u8], n: u64) {
     say(text);
@@ -12,10 +12,10 @@ fn say_counted(text: &[u8], n: u64) {
 
 fn say_signed(text: &[u8], word: u64) {
     say(text);
-    if spelling::is_negative(word) {
+    if readable::is_negative(word) {
         say(b"-");
     }
-    say_number(spelling::size(word));
+    say_number(readable::size(word));
 }
 
 fn say_question(old: &[u8], new: &[u8]) {

@@ -1,13 +1,13 @@
 // Reads the messages of its list, document 01's reading cases and three tables that must not take long, and writes what
 // comes back. crates/records/make has the list.
-use records::field::number_at;
-use records::field::part;
+use recorded::field::number_at;
+use recorded::field::part;
+use say::say;
+use say::say_bytes;
+use say::say_entries;
+use say::say_why;
+use say::say_with;
 use wire::ReadAnswer;
-use words::say;
-use words::say_bytes;
-use words::say_entries;
-use words::say_why;
-use words::say_with;
 
 // So many messages are in the list.
 const MESSAGES: usize = 13;

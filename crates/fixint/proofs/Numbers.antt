@@ -13,7 +13,7 @@ use Rattle.wire.specs.declared.Item.the-variants.{Took, Refused}
 use Rattle.wire.specs.Tests.{pick}
 use Rattle.wire.specs.Shape.{Width, w16, w32, w64, bits, size, Order, le, Sign, signed, fixed}
 use Rattle.wire.specs.Numbers.{word, inOrder, little, wordOf}
-use Rattle.wire.specs.Reading.{readLeaf}
+use Rattle.wire.specs.Reading.{readPlain}
 use Rattle.zigzag.specs.Widths.{widthOf, extended}
 use Rattle.fixint.specs.Sizes.{byteOf, signOf, IsSize, numberOf, Floats}
 
@@ -46,17 +46,17 @@ took n g o s h = rw (le-leb n (length s) h)
 
 -- ---- the leaves
 
-pub is-byte : (negative : Bool) (s : List ℕ) → numberOf 1 (signOf negative) le s ≡ readLeaf (byteOf negative) s
-unfolding numberOf readLeaf signOf byteOf word inOrder
+pub is-byte : (negative : Bool) (s : List ℕ) → numberOf 1 (signOf negative) le s ≡ readPlain (byteOf negative) s
+unfolding numberOf readPlain signOf byteOf word inOrder
 is-byte true s = refl
 is-byte false s = refl
 
-pub is-fixed : (o : Order) (g : Sign) (w : Width) (s : List ℕ) → numberOf (size w) g o s ≡ readLeaf (fixed o g w) s
-unfolding numberOf readLeaf size bits
+pub is-fixed : (o : Order) (g : Sign) (w : Width) (s : List ℕ) → numberOf (size w) g o s ≡ readPlain (fixed o g w) s
+unfolding numberOf readPlain size bits
 is-fixed o g w16 s = refl
 is-fixed o g w32 s = refl
 is-fixed o g w64 s = refl
 
 pub floats : Floats
-unfolding readLeaf size word inOrder
+unfolding readPlain size word inOrder
 floats s = (refl, refl)

@@ -5,9 +5,9 @@ use mathlib.Core.Bool.{Bool, true, false}
 use mathlib.Core.List.{List}
 use Prim.Native.Nat.{ℕ, _*_, _^_, _≤_}
 use Rattle.wire.specs.declared.Item.{Item}
-use Rattle.wire.specs.Shape.{w32, w64, Order, le, be, Sign, signed, unsigned, Leaf, i8, u8, f32, f64, fixed}
+use Rattle.wire.specs.Shape.{w32, w64, Order, le, be, Sign, signed, unsigned, Plain, i8, u8, f32, f64, fixed}
 use Rattle.wire.specs.Numbers.{word, little, inOrder, wordOf}
-use Rattle.wire.specs.Reading.{readLeaf}
+use Rattle.wire.specs.Reading.{readPlain}
 use Rattle.zigzag.specs.Widths.{widthOf}
 
 unfoldable pub orderOf : (big : Bool) → Order
@@ -18,7 +18,7 @@ unfoldable pub signOf : (negative : Bool) → Sign
 signOf false = unsigned
 signOf true = signed
 
-unfoldable pub byteOf : (negative : Bool) → Leaf
+unfoldable pub byteOf : (negative : Bool) → Plain
 byteOf false = u8
 byteOf true = i8
 
@@ -34,4 +34,4 @@ numberOf n g o s = wordOf n (λ b. word g (8 * n) (little (inOrder o b))) s
 
 -- a float's word is that of the unsigned number of its size
 abbrev pub Floats : Type 0
-Floats = (s : List ℕ) → (readLeaf f32 s ≡ readLeaf (fixed le unsigned w32) s) × (readLeaf f64 s ≡ readLeaf (fixed le unsigned w64) s)
+Floats = (s : List ℕ) → (readPlain f32 s ≡ readPlain (fixed le unsigned w32) s) × (readPlain f64 s ≡ readPlain (fixed le unsigned w64) s)

@@ -4,9 +4,9 @@ use mathlib.Core.Path.{_≡_}
 use mathlib.Core.List.{List}
 use Prim.Native.Nat.{ℕ}
 use Rattle.wire.specs.declared.Item.{Item}
-use Rattle.wire.specs.Shape.{Width, size, Order, Leaf}
+use Rattle.wire.specs.Shape.{Width, size, Order, Plain}
 use Rattle.wire.specs.Numbers.{littleBytes, inOrder}
-use Rattle.wire.specs.Reading.{readLeaf}
+use Rattle.wire.specs.Reading.{readPlain}
 use Rattle.laws.specs.Unique.{Unique}
 
 -- the encoders
@@ -15,4 +15,4 @@ OneArray = (o : Order) (w : Width) (x : ℕ) → Unique (λ (r : List ℕ). r �
 
 -- the decoders
 abbrev pub OneTake : Type 0
-OneTake = (l : Leaf) (s : List ℕ) → Unique (λ (r : Item). r ≡ readLeaf l s)
+OneTake = (l : Plain) (s : List ℕ) → Unique (λ (r : Item). r ≡ readPlain l s)

@@ -8,7 +8,7 @@ ghost use lib.ListN as lists;
 ghost use Rattle.wire.specs.Shape.{w16, w32, w64, size, le, be, fixed};
 ghost use Rattle.wire.specs.Numbers.{little, littleBytes, inOrder};
 ghost use Rattle.wire.specs.Numbers as numbers;
-ghost use Rattle.wire.specs.Reading.{readLeaf};
+ghost use Rattle.wire.specs.Reading.{readPlain};
 ghost use Rattle.fixint.specs.Sizes.{orderOf, signOf, byteOf, IsSize, numberOf};
 
 pub fn le2(x: u64) -> [u8; 2]
@@ -144,26 +144,26 @@ fn take(part: &[u8], n: usize, signed: bool, big: bool) -> Item
 }
 
 pub fn take8(part: &[u8], signed: bool) -> Item
-    ensures { λ r. ⌜ r ≡ readLeaf (byteOf signed) (now (part .entry)) ⌝ }
+    ensures { λ r. ⌜ r ≡ readPlain (byteOf signed) (now (part .entry)) ⌝ }
 {
     take(part, 1, signed, false)
 }
 
 pub fn take16(part: &[u8], signed: bool, big: bool) -> Item
-    ensures { λ r. ⌜ r ≡ readLeaf (fixed (orderOf big) (signOf signed) w16) (now (part .entry)) ⌝ }
+    ensures { λ r. ⌜ r ≡ readPlain (fixed (orderOf big) (signOf signed) w16) (now (part .entry)) ⌝ }
 {
     take(part, 2, signed, big)
 }
 
 // An f32 is the unsigned little-endian number of its bits, and so is an f64 below (specs/Sizes.antt, `Floats`).
 pub fn take32(part: &[u8], signed: bool, big: bool) -> Item
-    ensures { λ r. ⌜ r ≡ readLeaf (fixed (orderOf big) (signOf signed) w32) (now (part .entry)) ⌝ }
+    ensures { λ r. ⌜ r ≡ readPlain (fixed (orderOf big) (signOf signed) w32) (now (part .entry)) ⌝ }
 {
     take(part, 4, signed, big)
 }
 
 pub fn take64(part: &[u8], signed: bool, big: bool) -> Item
-    ensures { λ r. ⌜ r ≡ readLeaf (fixed (orderOf big) (signOf signed) w64) (now (part .entry)) ⌝ }
+    ensures { λ r. ⌜ r ≡ readPlain (fixed (orderOf big) (signOf signed) w64) (now (part .entry)) ⌝ }
 {
     take(part, 8, signed, big)
 }

@@ -9,7 +9,7 @@ use Rattle.wire.specs.Shape.{Kind, Shape}
 use Rattle.wire.specs.Walk.{Follow, following, isKnown, Walk}
 use Rattle.wire.specs.Values.{Entry}
 use Rattle.wire.specs.Append.{Matches}
-use Rattle.wire.specs.Reading.{Head, Spot, Run, Outcome, reached, refused, behind, readNothing, readOn, readThen, past, enter, readItem, reading}
+use Rattle.wire.specs.Reading.{Head, Spot, Run, Outcome, reached, refused, runAfter, readNothing, readOn, readThen, past, enter, readItem, reading}
 use Rattle.laws.specs.Steps.{Law, Every}
 use Rattle.laws.specs.Beside.{Sides, Each, none, also, Runs, ended, parted, Items, alike, refuse, part, ItemsAlike, ReadsAlike}
 use Rattle.laws.proofs.Walks.{walk-law, every}
@@ -36,7 +36,7 @@ module _ (b : Sides) where
   alike-nothing = record { runs = λ x y s. ended none s }
 
   alike-then : {f f′ g g′ : Spot → Run} → Alike f g → Alike f′ g′ → Alike (readThen f f′) (readThen g g′)
-  unfolding readThen readOn behind
+  unfolding readThen readOn runAfter
   alike-then {f′} {g′} h k = record { runs = λ x y s. go (h .runs x y s) }
     where
       go : {ds es : List Entry} {o p : Outcome} → Runs b ds o es p → Runs b (readOn ds o f′ .made) (readOn ds o f′ .ends) (readOn es p g′ .made) (readOn es p g′ .ends)
@@ -48,7 +48,7 @@ module _ (b : Sides) where
     alike-item : (f g : Follow → Spot → Run) (k : Kind) (n m : ℕ) → ItemsAlike b h h′ n m
         → ((a : ℕ) → isKnown (following k a) n ≡ true → Alike (f (following k a)) (g (following k a)))
         → Alike (readItem h k n (λ a. f (following k a))) (readItem h′ k m (λ a. g (following k a)))
-    unfolding readItem enter behind
+    unfolding readItem enter runAfter
     alike-item f g k n m items r = record { runs = λ x y s. go x y (items k x y s) }
       where
         go : (x y : Spot) {i j : Item} → Items b k n x y i j

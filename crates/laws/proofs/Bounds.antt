@@ -14,9 +14,9 @@ use Rattle.wire.specs.declared.Item.{Item}
 use Rattle.wire.specs.declared.Item.the-variants.{Took, Refused}
 use Rattle.wire.specs.Tests.{pick}
 use Rattle.wire.specs.Numbers.{most, last, varintF, varint, onFirst, wordOf}
-use Rattle.wire.specs.Shape.{Width, w32, w64, Leaf, bool, i8, u8, f32, f64, char, unit, int, fixed, Kind, plain, pooled, option, sequence, map, struct, enum, Shapes}
+use Rattle.wire.specs.Shape.{Width, w32, w64, Plain, bool, i8, u8, f32, f64, char, unit, int, fixed, Kind, plain, pooled, option, sequence, map, struct, enum, Shapes}
 use Rattle.wire.specs.Values.{Entry}
-use Rattle.wire.specs.Reading.{Spot, Run, Outcome, reached, flag, counted, charOf, contentOf, readLeaf, known, head, behind, readNothing, readOn, readThen, past, enter, readItem, reading, read}
+use Rattle.wire.specs.Reading.{Spot, Run, Outcome, reached, flag, counted, charOf, contentOf, readPlain, known, head, runAfter, readNothing, readOn, readThen, past, enter, readItem, reading, read}
 use Rattle.laws.specs.Steps.{Every, row}
 use Rattle.laws.specs.Range.{span, InRange}
 use Rattle.laws.proofs.Varints.{in-range}
@@ -65,8 +65,8 @@ fits-part a b c n e f test s h =
     fits-pick (ltb (length (drop n s)) c) (λ _. Fits.refuses)
     (λ l. fits-pick test (λ _. takes {n = n + c} (omega (arith, length-drop n s, nltb→le (length (drop n s)) c l))) (λ _. Fits.refuses))
 
-fits-leaf : (l : Leaf) (s : List ℕ) → Fits s (readLeaf l s)
-unfolding readLeaf charOf
+fits-leaf : (l : Plain) (s : List ℕ) → Fits s (readPlain l s)
+unfolding readPlain charOf
 fits-leaf bool s = fits-flag _ s
 fits-leaf i8 s = fits-word 1 _ s
 fits-leaf u8 s = fits-word 1 _ s
@@ -120,7 +120,7 @@ unfolding readNothing start past
 steady-nothing = record { stays = λ x. reaches {z = x} 0 (omega arith) (rw (add-zero (x .place))) refl }
 
 steady-then : {f g : Spot → Run} → Steady f → Steady g → Steady (readThen f g)
-unfolding readThen readOn behind
+unfolding readThen readOn runAfter
 steady-then {f} {g} h k = record { stays = λ x. go x (h .stays x) }
   where
     go : (x : Spot) {es : List Entry} {o : Outcome} → Stays x es o → Stays x (readOn es o g .made) (readOn es o g .ends)
@@ -128,7 +128,7 @@ steady-then {f} {g} h k = record { stays = λ x. go x (h .stays x) }
     go x (Stays.refuses l e s) = Stays.refuses l e s
 
 steady-item : {f : ℕ → Spot → Run} (k : Kind) (n : ℕ) → ((a : ℕ) → Steady (f a)) → Steady (readItem head k n f)
-unfolding readItem enter behind start
+unfolding readItem enter runAfter start
 steady-item {f} k n h = record { stays = λ x. go x (head-fits k n (x .place) (x .bytes)) }
   where
     go : (x : Spot) {i : Item} → Fits (x .bytes) i → Stays x (enter i f x .made) (enter i f x .ends)

@@ -8,7 +8,7 @@ use native.Mathlib.Nat.{le-of-suc-le-suc, not-suc-le-zero}
 use native.Mathlib.Omega.{arith}
 use lib.ListN.{length, getD, take, drop, List·getD-eq-default}
 use lib.Seq.{getD-take, getD-drop}
-use Rattle.wire.specs.Shape.{Leaf, Content, unit, Kind, plain, pooled, option, sequence, map, struct, enum}
+use Rattle.wire.specs.Shape.{Plain, Content, unit, Kind, plain, pooled, option, sequence, map, struct, enum}
 use Rattle.wire.specs.Table.{kinds, kindOf}
 use Rattle.laws.specs.KindRanges.{isAlone}
 use Rattle.laws.proofs.Splits.{by-lt, not-both}
@@ -34,7 +34,7 @@ in-kinds P lo n e ps k l h =
     (each-at (plain unit) ps (k - lo) (rw (← e) (omega arith)))
 
 -- the numbers that stand for no children: below 15 and above 19
-module _ (P : Kind → Type 0) (p : (x : Leaf) → P (plain x)) (q : (c : Content) → P (pooled c)) where
+module _ (P : Kind → Type 0) (p : (x : Plain) → P (plain x)) (q : (c : Content) → P (pooled c)) where
   alone : (k : Kind) → isAlone k ≡ true → P k
   unfolding isAlone
   alone (plain x) e = p x

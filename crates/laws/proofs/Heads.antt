@@ -10,17 +10,17 @@ use lib.Dec.{ltb, leb, eqb}
 use lib.ListN.{length, drop}
 use borrow.Author.Tests.{ltb-true, eqb-true}
 use Rattle.wire.specs.declared.Refusal.{Refusal}
-use Rattle.wire.specs.declared.Refusal.the-variants.{Bool as BadBool, Option as BadOption}
+use Rattle.wire.specs.declared.Refusal.the-variants.{BadBool, BadOption}
 use Rattle.wire.specs.declared.Item.{Item}
 use Rattle.wire.specs.declared.Item.the-variants.{Took}
 use Rattle.wire.specs.Tests.{pick, both}
-use Rattle.wire.specs.Shape.{w32, w64, bits, size, le, signed, unsigned, Leaf, bool, i8, u8, f32, f64, char, unit, int, fixed, Content, Kind, plain, pooled, option, sequence, map, struct, enum}
+use Rattle.wire.specs.Shape.{w32, w64, bits, size, le, signed, unsigned, Plain, bool, i8, u8, f32, f64, char, unit, int, fixed, Content, Kind, plain, pooled, option, sequence, map, struct, enum}
 use Rattle.wire.specs.Walk.{following, isKnown}
 use Rattle.wire.specs.Values.{Tag, part, content, isPooled, valueOf}
 use Rattle.wire.specs.Numbers.{varint, shortest, word, isWord, inOrder}
 use Rattle.wire.specs.Text.{charBytes}
-use Rattle.wire.specs.Reading.{flag, charOf, isContent, contentOf, readLeaf, known, head}
-use Rattle.wire.specs.Writing.{single, withCount, leafBytes, headBytes}
+use Rattle.wire.specs.Reading.{flag, charOf, isContent, contentOf, readPlain, known, head}
+use Rattle.wire.specs.Writing.{single, withCount, plainBytes, headBytes}
 use Rattle.laws.proofs.Splits.{both-left, both-right}
 use Rattle.laws.proofs.Own.{when-some, single-some}
 use Rattle.laws.proofs.Varints.{varint-back}
@@ -50,24 +50,24 @@ count-item : (a : ℕ) (rest : List ℕ) → isWord unsigned 64 a ≡ true → v
 unfolding isWord bits
 count-item a rest is = varint-back w64 a rest (ltb-true a (2 ^ 64) is)
 
-char-item : (a : ℕ) (rest : List ℕ) → IsText a (charBytes a) → readLeaf char (withCount (charBytes a) ++ rest) ≡ Took a 0 (length (withCount (charBytes a)))
-unfolding readLeaf
+char-item : (a : ℕ) (rest : List ℕ) → IsText a (charBytes a) → readPlain char (withCount (charBytes a) ++ rest) ≡ Took a 0 (length (withCount (charBytes a)))
+unfolding readPlain
 char-item a rest h =
     count-back charOf (charBytes a) rest (omega (arith, h .few-bytes)) ∙ char-back a _ (charBytes a) rest h
     ∙ ap (Took a 0) (sym (length-withCount (charBytes a)))
 
-pub leaf-back : (l : Leaf) (a b : ℕ) {s : List ℕ} (rest : List ℕ) → a < 2 ^ 64 → leafBytes l a b ≡ some s → NumberBack (readLeaf l (s ++ rest)) a b s
-unfolding leafBytes readLeaf word isWord inOrder
+pub leaf-back : (l : Plain) (a b : ℕ) {s : List ℕ} (rest : List ℕ) → a < 2 ^ 64 → plainBytes l a b ≡ some s → NumberBack (readPlain l (s ++ rest)) a b s
+unfolding plainBytes readPlain word isWord inOrder
 leaf-back bool a b rest h e = single-back (flag BadBool) _ a b _ rest e (flag-back BadBool a rest)
-leaf-back i8 a b rest h e = single-back (readLeaf i8) _ a b _ rest e (fixed-back le signed 8 1 bits8 refl a rest h)
-leaf-back u8 a b rest h e = single-back (readLeaf u8) _ a b _ rest e (fixed-back le unsigned 8 1 bits8 refl a rest h)
-leaf-back f32 a b rest h e = single-back (readLeaf f32) _ a b _ rest e (fixed-back le unsigned 32 4 bits32 refl a rest h)
-leaf-back f64 a b rest h e = single-back (readLeaf f64) _ a b _ rest e (fixed-back le unsigned 64 8 bits64 refl a rest h)
-leaf-back char a b rest h e = single-back (readLeaf char) _ a b _ rest e (λ is. char-item a rest (char-text a is))
-leaf-back unit a b rest h e = single-back (readLeaf unit) _ a b _ rest e (zero-back a)
-leaf-back (int g w) a b rest h e = single-back (readLeaf (int g w)) _ a b _ rest e (int-back g w a rest h)
+leaf-back i8 a b rest h e = single-back (readPlain i8) _ a b _ rest e (fixed-back le signed 8 1 bits8 refl a rest h)
+leaf-back u8 a b rest h e = single-back (readPlain u8) _ a b _ rest e (fixed-back le unsigned 8 1 bits8 refl a rest h)
+leaf-back f32 a b rest h e = single-back (readPlain f32) _ a b _ rest e (fixed-back le unsigned 32 4 bits32 refl a rest h)
+leaf-back f64 a b rest h e = single-back (readPlain f64) _ a b _ rest e (fixed-back le unsigned 64 8 bits64 refl a rest h)
+leaf-back char a b rest h e = single-back (readPlain char) _ a b _ rest e (λ is. char-item a rest (char-text a is))
+leaf-back unit a b rest h e = single-back (readPlain unit) _ a b _ rest e (zero-back a)
+leaf-back (int g w) a b rest h e = single-back (readPlain (int g w)) _ a b _ rest e (int-back g w a rest h)
 leaf-back (fixed o g w) a b rest h e =
-    single-back (readLeaf (fixed o g w)) _ a b _ rest e (fixed-back o g (bits w) (size w) (bitsOf w) (bytes-of-width w) a rest h)
+    single-back (readPlain (fixed o g w)) _ a b _ rest e (fixed-back o g (bits w) (size w) (bitsOf w) (bytes-of-width w) a rest h)
 
 -- ---- any item
 

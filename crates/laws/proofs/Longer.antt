@@ -10,15 +10,15 @@ use lib.Seq.{take-append-le, drop-append-le}
 use lib.Dec.{leb, ltb}
 use borrow.Author.Tests.{leb-true, le-leb, ltb-false, le-ltb}
 use Rattle.wire.specs.declared.Refusal.{Refusal}
-use Rattle.wire.specs.declared.Refusal.the-variants.{End, Char, Utf8}
+use Rattle.wire.specs.declared.Refusal.the-variants.{End, BadChar, BadUtf8}
 use Rattle.wire.specs.declared.Item.{Item}
 use Rattle.wire.specs.declared.Item.the-variants.{Took, Refused}
 use Rattle.wire.specs.Tests.{pick, both}
 use Rattle.wire.specs.Numbers.{most, last, low, varintF, varint, onFirst, wordOf}
 use Rattle.wire.specs.Text.{utf8, firstChar}
-use Rattle.wire.specs.Shape.{Width, w32, w64, Leaf, bool, i8, u8, f32, f64, char, unit, int, fixed, Content, Kind, plain, pooled, option, sequence, map, struct, enum, Shape}
+use Rattle.wire.specs.Shape.{Width, w32, w64, Plain, bool, i8, u8, f32, f64, char, unit, int, fixed, Content, Kind, plain, pooled, option, sequence, map, struct, enum, Shape}
 use Rattle.wire.specs.Values.{Entry}
-use Rattle.wire.specs.Reading.{Spot, Run, Outcome, reached, refused, flag, counted, charOf, isContent, contentOf, readLeaf, known, head, past, read}
+use Rattle.wire.specs.Reading.{Spot, Run, Outcome, reached, refused, flag, counted, charOf, isContent, contentOf, readPlain, known, head, past, read}
 use Rattle.laws.specs.Bounds.{Fits, takes}
 use Rattle.laws.specs.Beside.{Sides, Each, Runs, ended, parted, Items, alike, refuse, part, ItemsAlike}
 use Rattle.laws.specs.Beside as beside
@@ -102,14 +102,14 @@ module _ (extra : List ℕ) where
 
   long-char : (c n : ℕ) (r : List ℕ) → Long (charOf c n r) (charOf c n (r ++ extra))
   unfolding charOf
-  long-char c n r = long-pick (ltb 4 c) same (long-part (λ t. pick (both (ltb 0 c) (utf8 t)) (Took (firstChar t) 0 (n + c)) (Refused Char)) c r)
+  long-char c n r = long-pick (ltb 4 c) same (long-part (λ t. pick (both (ltb 0 c) (utf8 t)) (Took (firstChar t) 0 (n + c)) (Refused BadChar)) c r)
 
   long-content : (k : Content) (p c n : ℕ) (r : List ℕ) → Long (contentOf k p c n r) (contentOf k p c n (r ++ extra))
   unfolding contentOf
-  long-content k p c n r = long-part (λ t. pick (isContent k t) (Took (p + n) c (n + c)) (Refused Utf8)) c r
+  long-content k p c n r = long-part (λ t. pick (isContent k t) (Took (p + n) c (n + c)) (Refused BadUtf8)) c r
 
-  long-leaf : (l : Leaf) (s : List ℕ) → Long (readLeaf l s) (readLeaf l (s ++ extra))
-  unfolding readLeaf
+  long-leaf : (l : Plain) (s : List ℕ) → Long (readPlain l s) (readPlain l (s ++ extra))
+  unfolding readPlain
   long-leaf bool s = long-flag _ s
   long-leaf i8 s = long-word 1 _ s
   long-leaf u8 s = long-word 1 _ s

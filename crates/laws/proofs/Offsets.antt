@@ -8,7 +8,7 @@ use native.Mathlib.Nat.{zero-add}
 use native.Mathlib.Omega.{arith}
 use lib.Dec.{ltb}
 use lib.ListN.{length, take, drop}
-use Rattle.wire.specs.declared.Refusal.the-variants.{End, Utf8}
+use Rattle.wire.specs.declared.Refusal.the-variants.{End, BadUtf8}
 use Rattle.wire.specs.declared.Item.{Item}
 use Rattle.wire.specs.declared.Item.the-variants.{Took, Refused}
 use Rattle.wire.specs.Tests.{pick}
@@ -23,8 +23,8 @@ module _ (k : Content) (p : ℕ) (s : List ℕ) where
   content-moved c n = go (ltb (length (drop n s)) c) (isContent k (take c (drop n s)))
     where
       go : (t u : Bool)
-          → onFirst (λ a. p + a) (pick t (Refused End) (pick u (Took (0 + n) c (n + c)) (Refused Utf8)))
-          ≡ pick t (Refused End) (pick u (Took (p + n) c (n + c)) (Refused Utf8))
+          → onFirst (λ a. p + a) (pick t (Refused End) (pick u (Took (0 + n) c (n + c)) (Refused BadUtf8)))
+          ≡ pick t (Refused End) (pick u (Took (p + n) c (n + c)) (Refused BadUtf8))
       go true u = refl
       go false true = rw zero-add
       go false false = refl

@@ -11,7 +11,7 @@ use lib.Seq.{take-at}
 use Rattle.wire.specs.Tests.{given}
 use Rattle.wire.specs.Shape.{Kind, Shape}
 use Rattle.wire.specs.Walk.{following, isKnown}
-use Rattle.wire.specs.Values.{Entry, Tag, Told, kept, lacks, short, ahead, tellNothing, tellOn, tellThen, tellItem, telling, tell, valueOf, valued, values}
+use Rattle.wire.specs.Values.{Entry, Tag, Told, kept, lacks, short, toldAfter, tellNothing, tellOn, tellThen, tellItem, telling, tell, valueOf, valued, values}
 use Rattle.wire.specs.Answers.{wordsPer, words, wordsOf, entriesOf, storeWith}
 use Rattle.laws.specs.Steps.{Every}
 use Rattle.laws.proofs.Walks.{every}
@@ -32,8 +32,8 @@ bareTold (short ts) = short (lists.map bareTag ts)
 record Placeless (u : List Entry → Told) : Type 0 where
   same : (es : List Entry) → u (lists.map bare es) ≡ bareTold (u es)
 
-ahead-bare : (ts : List Tag) (x : Told) → ahead (lists.map bareTag ts) (bareTold x) ≡ bareTold (ahead ts x)
-unfolding ahead
+ahead-bare : (ts : List Tag) (x : Told) → toldAfter (lists.map bareTag ts) (bareTold x) ≡ bareTold (toldAfter ts x)
+unfolding toldAfter
 ahead-bare ts (kept us es) = rw (map-append bareTag ts us)
 ahead-bare ts (lacks us e es) = rw (map-append bareTag ts us)
 ahead-bare ts (short us) = rw (map-append bareTag ts us)
@@ -56,7 +56,7 @@ unfolding tellItem given
 item-bare k n next h = record { same = go }
   where
     told : (e : Entry) (es : List Entry) (t : Bool) → Told
-    told e es t = given t (λ _. ahead (record { kind = k; entry = e } ∷ []) (next (e .first) es)) (lacks [] e es)
+    told e es t = given t (λ _. toldAfter (record { kind = k; entry = e } ∷ []) (next (e .first) es)) (lacks [] e es)
 
     told-bare : (e : Entry) (es : List Entry) (t : Bool) → told (bare e) (lists.map bare es) t ≡ bareTold (told e es t)
     told-bare e es true = rw (h (e .first) .same es) (ahead-bare (record { kind = k; entry = e } ∷ []) (next (e .first) es))

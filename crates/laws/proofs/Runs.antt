@@ -12,24 +12,24 @@ use Rattle.wire.specs.declared.Item.{Item}
 use Rattle.wire.specs.declared.Item.the-variants.{Took, Refused}
 use Rattle.wire.specs.Shape.{Kind}
 use Rattle.wire.specs.Values.{Entry}
-use Rattle.wire.specs.Reading.{Head, Spot, Run, Outcome, reached, refused, behind, readNothing, readOn, readThen, enter, readItem, within, fit}
+use Rattle.wire.specs.Reading.{Head, Spot, Run, Outcome, reached, refused, runAfter, readNothing, readOn, readThen, enter, readItem, within, fit}
 
 -- ---- without a bound
 
-pub behind-behind : (es fs : List Entry) (r : Run) → behind es (behind fs r) ≡ behind (es ++ fs) r
-unfolding behind
+pub behind-behind : (es fs : List Entry) (r : Run) → runAfter es (runAfter fs r) ≡ runAfter (es ++ fs) r
+unfolding runAfter
 behind-behind es fs r = rw (append-assoc es fs (r .made))
 
-on-behind : (es : List Entry) (r : Run) (g : Spot → Run) → readOn (es ++ r .made) (r .ends) g ≡ behind es (readOn (r .made) (r .ends) g)
+on-behind : (es : List Entry) (r : Run) (g : Spot → Run) → readOn (es ++ r .made) (r .ends) g ≡ runAfter es (readOn (r .made) (r .ends) g)
 on-behind es r g = go (r .made) (r .ends)
   where
-    go : (fs : List Entry) (o : Outcome) → readOn (es ++ fs) o g ≡ behind es (readOn fs o g)
-    go fs (reached x) = unfold readOn behind in rw (append-assoc es fs (g x .made))
-    go fs (refused e p) = unfold readOn behind in refl
+    go : (fs : List Entry) (o : Outcome) → readOn (es ++ fs) o g ≡ runAfter es (readOn fs o g)
+    go fs (reached x) = unfold readOn runAfter in rw (append-assoc es fs (g x .made))
+    go fs (refused e p) = unfold readOn runAfter in refl
 
 -- nothing behind a run is the run
 pub on-nothing : (es : List Entry) (o : Outcome) → readOn es o readNothing ≡ record { made = es; ends = o }
-unfolding readOn behind readNothing
+unfolding readOn runAfter readNothing
 on-nothing es (reached x) = rw (append-nil es)
 on-nothing es (refused e p) = refl
 
@@ -47,14 +47,14 @@ left a b = omega arith
 
 fit-on : (room : ℕ) (es : List Entry) (o : Outcome) (g : Spot → Run)
     → fit room (readOn es o g) ≡ readOn (within room es o .made) (within room es o .ends) (λ y. fit (room - length (within room es o .made)) (g y))
-unfolding fit readOn within behind
+unfolding fit readOn within runAfter
 fit-on room [] (reached y) g = rw (sub-zero room)
 fit-on zero [] (refused e p) g = refl
 fit-on (suc room) [] (refused e p) g = refl
 fit-on zero (e ∷ es) o g = ap (fit zero) (on-behind (e ∷ []) (record { made = es; ends = o }) g)
 fit-on (suc room) (e ∷ es) o g =
     rw (left room (length (within room es o .made)))
-    (ap (fit (suc room)) (on-behind (e ∷ []) (record { made = es; ends = o }) g) ∙ ap (behind (e ∷ [])) (fit-on room es o g)
+    (ap (fit (suc room)) (on-behind (e ∷ []) (record { made = es; ends = o }) g) ∙ ap (runAfter (e ∷ [])) (fit-on room es o g)
     ∙ sym (on-behind (e ∷ []) (within room es o) (λ y. fit (room - length (within room es o .made)) (g y))))
 
 -- the next step has the room that is left
@@ -66,13 +66,13 @@ fit-then room f g x = unfold fit in fit-on room (f x .made) (f x .ends) g
 -- a loop's step, behind the entries that were made before
 module _ (room : ℕ) (es : List Entry) (f g : Spot → Run) (x : Spot) where
   pub step-reached : (fs : List Entry) (y : Spot) → fit (room - length es) (f x) ≡ record { made = fs; ends = reached y }
-      → behind es (fit (room - length es) (readThen f g x)) ≡ behind (es ++ fs) (fit (room - length (es ++ fs)) (g y))
+      → runAfter es (fit (room - length es) (readThen f g x)) ≡ runAfter (es ++ fs) (fit (room - length (es ++ fs)) (g y))
   unfolding readOn
   step-reached fs y e = rw (fit-then, e, behind-behind, length-append es fs, ← less room (length es) (length fs))
 
   pub step-refused : (fs : List Entry) (r : Refusal) (p : ℕ) → fit (room - length es) (f x) ≡ record { made = fs; ends = refused r p }
-      → behind es (fit (room - length es) (readThen f g x)) ≡ record { made = es ++ fs; ends = refused r p }
-  unfolding readOn behind
+      → runAfter es (fit (room - length es) (readThen f g x)) ≡ record { made = es ++ fs; ends = refused r p }
+  unfolding readOn runAfter
   step-refused fs r p e = rw (fit-then, e)
 
 module _ (h : Head) (k : Kind) (n : ℕ) (next : ℕ → Spot → Run) (x : Spot) where
@@ -83,7 +83,7 @@ module _ (h : Head) (k : Kind) (n : ℕ) (next : ℕ → Spot → Run) (x : Spot
     where
       go : (i : Item) → fit (suc room) (enter i next x) ≡ enter i (λ a y. fit room (next a y)) x
       go (Refused e) = unfold fit enter within in refl
-      go (Took a b u) = unfold fit enter within behind in refl
+      go (Took a b u) = unfold fit enter within runAfter in refl
 
   pub fit-none : fit 0 (readItem h k n next x) ≡ record { made = []; ends = refused Room (x .place) }
   unfolding readItem
@@ -91,25 +91,25 @@ module _ (h : Head) (k : Kind) (n : ℕ) (next : ℕ → Spot → Run) (x : Spot
     where
       go : (i : Item) → fit 0 (enter i next x) ≡ record { made = []; ends = refused Room (x .place) }
       go (Refused e) = unfold fit enter within in refl
-      go (Took a b u) = unfold fit enter within behind in refl
+      go (Took a b u) = unfold fit enter within runAfter in refl
 
 -- ---- enough room
 
 pub within-reached : (room : ℕ) (es : List Entry) (y : Spot) → length es ≤ room → within room es (reached y) ≡ record { made = es; ends = reached y }
-unfolding within behind
+unfolding within runAfter
 within-reached room [] y h = refl
 within-reached zero (e ∷ es) y h = absurd (not-suc-le-zero h)
 within-reached (suc room) (e ∷ es) y h = rw (within-reached room es y (omega arith))
 
 -- an item that is refused wants room too
 pub within-refused : (room : ℕ) (es : List Entry) (r : Refusal) (p : ℕ) → length es < room → within room es (refused r p) ≡ record { made = es; ends = refused r p }
-unfolding within behind
+unfolding within runAfter
 within-refused zero es r p h = absurd (not-suc-le-zero h)
 within-refused (suc room) [] r p h = refl
 within-refused (suc room) (e ∷ es) r p h = rw (within-refused room es r p (omega arith))
 
 within-enough : (room : ℕ) (es : List Entry) (o : Outcome) (y : Spot) → within room es o .ends ≡ reached y → (length es ≤ room) × (o ≡ reached y)
-unfolding within behind
+unfolding within runAfter
 within-enough room [] (reached x) y h = (omega arith, h)
 within-enough zero [] (refused r p) y h = (omega arith, cc)
 within-enough (suc room) [] (refused r p) y h = (omega arith, h)

@@ -2,7 +2,7 @@
 -- Assumes nothing.
 use mathlib.Core.Bool.{Bool, true, false}
 use Prim.Native.Nat.{ℕ, zero, suc}
-use Rattle.wire.specs.Shape.{w16, w32, w64, Order, signed, unsigned, Leaf, fixed, Kind, plain, pooled, option, sequence, map, struct, enum}
+use Rattle.wire.specs.Shape.{w16, w32, w64, Order, signed, unsigned, Plain, fixed, Kind, plain, pooled, option, sequence, map, struct, enum}
 
 -- no children, so no other item, follow an item of it
 unfoldable pub isAlone : Kind → Bool
@@ -15,7 +15,7 @@ isAlone struct = false
 isAlone enum = false
 
 -- the fixed-size integers of one order, as their kinds' numbers go
-unfoldable pub sixth : Order → ℕ → Leaf
+unfoldable pub sixth : Order → ℕ → Plain
 sixth o zero = fixed o signed w16
 sixth o (suc zero) = fixed o signed w32
 sixth o (suc (suc zero)) = fixed o signed w64

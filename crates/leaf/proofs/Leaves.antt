@@ -16,7 +16,7 @@ use Rattle.wire.specs.Tests.{pick, both}
 use Rattle.wire.specs.Shape.{w64, Order, unsigned, unit, fixed, Content, Kind, plain, pooled, option, sequence, map, struct, enum}
 use Rattle.wire.specs.Table.{kinds, isKind, kindOf}
 use Rattle.wire.specs.Values.{isPooled}
-use Rattle.wire.specs.Reading.{readLeaf, head}
+use Rattle.wire.specs.Reading.{readPlain, head}
 use Rattle.laws.specs.Bounds.{Fits, takes}
 use Rattle.laws.specs.KindRanges.{isAlone, sixth}
 use Rattle.laws.proofs.Splits.{by-eq}
@@ -29,7 +29,7 @@ use Rattle.leaf.specs.Leaves.{isLeaf, takeAt, Within}
 
 -- to unfold this is to compute a kind from its number
 unfoldable pub numbered : ℕ
-unfolding kinds kindOf head readLeaf
+unfolding kinds kindOf head readPlain
 numbered = 0
 
 -- ---- which numbers are leaves

@@ -7,7 +7,7 @@ ghost use lib.ListN.{length};
 ghost use Rattle.wire.specs.Shape as shapes;
 ghost use Rattle.wire.specs.Numbers as numbers;
 ghost use Rattle.wire.specs.Table.{kindOf};
-ghost use Rattle.wire.specs.Reading.{flag, readLeaf, head};
+ghost use Rattle.wire.specs.Reading.{flag, readPlain, head};
 ghost use Rattle.laws.specs.KindRanges.{sixth};
 ghost use Rattle.fixint.specs.Sizes.{orderOf};
 ghost use Rattle.leaf.specs.Leaves.{takeAt, Within};
@@ -147,7 +147,7 @@ fn text(kind: u8, part: &[u8], place: usize) -> Item
 
 // The k-th of the six fixed-size integers of an order.
 fn fixed(k: u8, part: &[u8], big: bool) -> Item
-    ensures { λ r. ⌜ r ≡ readLeaf (sixth (orderOf big) k) (now (part .entry)) ⌝ }
+    ensures { λ r. ⌜ r ≡ readPlain (sixth (orderOf big) k) (now (part .entry)) ⌝ }
 {
     match k {
         0 => fixint::take16(part, true, big),
@@ -184,7 +184,7 @@ pub fn take(kind: u8, part: &[u8], place: usize) -> Item
         return Item::Refused { why: Refusal::End };
     }
     match kind {
-        0 => take_flag(part, Refusal::Bool),
+        0 => take_flag(part, Refusal::BadBool),
         1..=4 => signed(kind, part),
         5..=8 => unsigned(kind, part),
         _ => anew(others(kind, part, place)),

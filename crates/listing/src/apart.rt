@@ -3,11 +3,11 @@ use crate::names::say_child;
 use crate::parts::child;
 use crate::tree::say_bad;
 use crate::tree::say_node;
+use say::say;
 use wire::Checked;
 use wire::Layout;
 use wire::Refusal;
 use wire::Side;
-use words::say;
 ghost use Prim.Native.Nat.{_<_};
 ghost use Rattle.laws.specs.Tables.{GoodTable};
 

@@ -1,7 +1,7 @@
 // The names of kinds, and of a child's position under its parent.
-use words::part;
-use words::say_part;
-use words::say_with;
+use say::part;
+use say::say_part;
+use say::say_with;
 
 // A kind's name, by its number.
 pub fn say_kind(number: u8) {

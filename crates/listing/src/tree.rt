@@ -2,13 +2,13 @@
 use crate::names::say_child;
 use crate::names::say_kind;
 use crate::parts::child;
+use say::indent;
+use say::say;
+use say::say_why;
+use say::say_with;
 use wire::Checked;
 use wire::Layout;
 use wire::Refusal;
-use words::indent;
-use words::say;
-use words::say_why;
-use words::say_with;
 ghost use mathlib.Core.Path.{_≡_};
 ghost use Prim.Native.Nat.{_+_, _≤_, _<_};
 ghost use lib.ListN.{length};

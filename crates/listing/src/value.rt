@@ -1,15 +1,15 @@
 // A value in its kind's own form, with a space in front if it has one.
 use libc::STDOUT_FILENO;
-use words::front;
-use words::part;
-use words::say;
-use words::say_bytes;
-use words::say_part;
-use words::say_with;
+use say::front;
+use say::part;
+use say::say;
+use say::say_bytes;
+use say::say_part;
+use say::say_with;
 
 fn say_signed(word: u64) {
-    let sign = spelling::is_negative(word) as usize;
-    say_with(part(b" #; -#", sign), spelling::size(word));
+    let sign = readable::is_negative(word) as usize;
+    say_with(part(b" #; -#", sign), readable::size(word));
 }
 
 fn say_bits(word: u64, digits: usize) {
@@ -18,7 +18,7 @@ fn say_bits(word: u64, digits: usize) {
 }
 
 fn say_escaped(b: u8) {
-    let spelled = spelling::escaped(b);
+    let spelled = readable::escaped(b);
     let bytes = spelled.bytes;
     say(front(&bytes, spelled.len));
 }

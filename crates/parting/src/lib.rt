@@ -113,7 +113,7 @@ fn after_old(old: &[u8], l: Layout, new: &[u8], path: &mut [u64; ROOM]) -> Parti
 }
 
 // Where the new table parts from the old one: the positions from the roots down stand in the path's first words, and no other word changes; none where the new one only appends, or one of them is not good.
-pub fn parts(old: &[u8], new: &[u8], path: &mut [u64; ROOM]) -> Parting
+pub fn find(old: &[u8], new: &[u8], path: &mut [u64; ROOM]) -> Parting
     ensures { λ r. ⌜ Parts (parted (now (old .entry)) (now (new .entry))) (now (path .entry)) r (now (path .exit)) ⌝ }
 {
     match table::check(old) {

@@ -9,7 +9,7 @@ use borrow.Author.Tests.{ltb-true, lt-ltb}
 use Rattle.wire.specs.Tests.{given}
 use Rattle.wire.specs.Shape.{Kind, struct, Shape, Shapes}
 use Rattle.wire.specs.Walk.{Follow, each, only, following, isKnown, Walk}
-use Rattle.wire.specs.Values.{Entry, Tag, Told, kept, lacks, short, ahead, tellNothing, tellOn, tellThen, tellItem, telling, tell}
+use Rattle.wire.specs.Values.{Entry, Tag, Told, kept, lacks, short, toldAfter, tellNothing, tellOn, tellThen, tellItem, telling, tell}
 use Rattle.wire.specs.Append.{Appends}
 use Rattle.laws.specs.Steps.{row, Law, Appending}
 use Rattle.laws.proofs.Walks.{appends-law}
@@ -23,8 +23,8 @@ tags (kept ts rest) = ts
 tags (lacks ts e rest) = ts
 tags (short ts) = ts
 
-tags-ahead : (ts : List Tag) (t : Told) → tags (ahead ts t) ≡ ts ++ tags t
-unfolding tags ahead
+tags-ahead : (ts : List Tag) (t : Told) → tags (toldAfter ts t) ≡ ts ++ tags t
+unfolding tags toldAfter
 tags-ahead ts (kept us rest) = refl
 tags-ahead ts (lacks us e rest) = refl
 tags-ahead ts (short us) = refl
@@ -44,8 +44,8 @@ data Front : Told → Told → Type 0 where
 record Leads (f g : List Entry → Told) : Type 0 where
   leads : (es : List Entry) → Front (f es) (g es)
 
-front-ahead : {t u : Told} (ts : List Tag) → Front t u → Front (ahead ts t) (ahead ts u)
-unfolding ahead
+front-ahead : {t u : Told} (ts : List Tag) → Front t u → Front (toldAfter ts t) (toldAfter ts u)
+unfolding toldAfter
 front-ahead ts same = same
 front-ahead ts (lost {ts = rs} {t} us h) = lost us (tags-ahead ts t ∙ ap (λ l. ts ++ l) h ∙ sym (append-assoc ts rs us))
 
@@ -72,7 +72,7 @@ unfolding tellItem given
 leads-item {f} {g} k n m l h = record { leads = go }
   where
     entry : (e : Entry) (es : List Entry) (x : Bool) → isKnown (following k (e .first)) n ≡ x
-        → Front (given x (λ _. ahead (record { kind = k; entry = e } ∷ []) (f (e .first) es)) (lacks [] e es)) (tellItem k m g (e ∷ es))
+        → Front (given x (λ _. toldAfter (record { kind = k; entry = e } ∷ []) (f (e .first) es)) (lacks [] e es)) (tellItem k m g (e ∷ es))
     entry e es true t = rw (known-more (following k (e .first)) n m l t) (front-ahead _ (h (e .first) t .leads es))
     entry e es false t = lost (tags (tellItem k m g (e ∷ es))) refl
 

@@ -15,9 +15,9 @@ use Rattle.wire.specs.declared.Item.the-variants.{Took, Refused}
 use Rattle.wire.specs.Tests.{pick, given}
 use Rattle.wire.specs.Shape.{w32, Kind, plain, pooled, option, sequence, map, struct, enum, Shapes}
 use Rattle.wire.specs.Walk.{following, isKnown, Walk}
-use Rattle.wire.specs.Values.{Entry, Tag, Told, kept, lacks, ahead, tellNothing, tellOn, tellThen, tellItem, telling, tell}
+use Rattle.wire.specs.Values.{Entry, Tag, Told, kept, lacks, toldAfter, tellNothing, tellOn, tellThen, tellItem, telling, tell}
 use Rattle.wire.specs.Numbers.{varint}
-use Rattle.wire.specs.Reading.{known, head, Spot, front, Outcome, reached, refused, Run, behind, readNothing, readOn, readThen, past, enter, readItem, reading, read}
+use Rattle.wire.specs.Reading.{known, head, Spot, front, Outcome, reached, refused, Run, runAfter, readNothing, readOn, readThen, past, enter, readItem, reading, read}
 use Rattle.laws.specs.Steps.{row, Law, Appending}
 use Rattle.laws.specs.Bounds.{start, Stays, reaches}
 use Rattle.laws.proofs.Walks.{walk-law, appends-law, matches-refl}
@@ -49,13 +49,13 @@ keeps-nothing = record { tells = λ x. told (λ rest. whole [] refl refl) }
 -- ---- one after the other
 
 same-ahead : {es fs rest made gs : List Entry} {z : Spot} {w : Told} {o : Outcome} (ts : List Tag)
-    → entries ts ≡ es → made ≡ es → Same fs rest z gs w o → Same (es ++ fs) rest z (made ++ gs) (ahead ts w) o
-unfolding ahead
+    → entries ts ≡ es → made ≡ es → Same fs rest z gs w o → Same (es ++ fs) rest z (made ++ gs) (toldAfter ts w) o
+unfolding toldAfter
 same-ahead ts a b (whole us c d) = whole (ts ++ us) (rw (entries-append ts us, a, c)) (rw (b, d))
 same-ahead ts a b (lacking us c) = lacking (ts ++ us) (rw (entries-append ts us, a, b, c))
 
 keeps-then : {w v : List Entry → Told} {f f′ g g′ : Spot → Run} → Keeps w f g → Keeps v f′ g′ → Keeps (tellThen w v) (readThen f f′) (readThen g g′)
-unfolding tellThen tellOn readThen readOn behind
+unfolding tellThen tellOn readThen readOn runAfter
 keeps-then {w} {v} {f} {f′} {g} {g′} h k = record { tells = λ x. start′ (f x) (h .tells x) }
   where
     next : {es fs rest made : List Entry} {y z : Spot} {t : Told} {o : Outcome} → Same es (fs ++ rest) y made t o
@@ -109,11 +109,11 @@ heads k n m p s = go k
 
 keeps-item : {w : ℕ → List Entry → Told} {f g : ℕ → Spot → Run} (k : Kind) (n m : ℕ) → n ≤ m
     → ((a : ℕ) → isKnown (following k a) n ≡ true → Keeps (w a) (f a) (g a)) → Keeps (tellItem k n w) (readItem head k n f) (readItem head k m g)
-unfolding tellItem readItem enter behind given entries
+unfolding tellItem readItem enter runAfter given entries
 keeps-item {w} {f} {g} k n m l h = record { tells = λ x. go x (λ a b u. head-known k n (x .place) (x .bytes) {a = a} {b = b} {u = u}) (heads k n m (x .place) (x .bytes)) }
   where
     entry : {es : List Entry} {o : Outcome} {old : Run} (e : Entry) → isKnown (following k (e .first)) n ≡ true → Tells (w (e .first)) old es o
-        → Tells (tellItem k n w) (behind (e ∷ []) old) (e ∷ es) o
+        → Tells (tellItem k n w) (runAfter (e ∷ []) old) (e ∷ es) o
     entry e t silent = silent
     entry e t (told {y} s) = told {y = y} (λ rest. rw t (same-ahead (record { kind = k; entry = e } ∷ []) refl refl (s rest)))
 
@@ -178,8 +178,8 @@ data Begun (w : List Entry → Told) (old : Run) (es : List Entry) : Outcome →
 record Begins (w : List Entry → Told) (f g : Spot → Run) : Type 0 where
   begins : (x : Spot) → Begun w (f x) (g x .made) (g x .ends)
 
-part-ahead : {end : ℕ} {made gs : List Entry} {w : Told} {o : Outcome} (ts : List Tag) → made ≡ entries ts → Part end gs w o → Part end (made ++ gs) (ahead ts w) o
-unfolding ahead
+part-ahead : {end : ℕ} {made gs : List Entry} {w : Told} {o : Outcome} (ts : List Tag) → made ≡ entries ts → Part end gs w o → Part end (made ++ gs) (toldAfter ts w) o
+unfolding toldAfter
 part-ahead ts a (part us c d) = part (ts ++ us) (rw (entries-append ts us, a, c)) d
 part-ahead ts a (Part.lacking us c) = Part.lacking (ts ++ us) (rw (entries-append ts us, a, c))
 
@@ -193,7 +193,7 @@ begins-end ts = record { begins = λ x. go x (row-stays ts x) }
     go x (Stays.refuses l e s) = Begun.silent
 
 begins-then : {w v : List Entry → Told} {f f′ g g′ : Spot → Run} → Keeps w f g → Begins v f′ g′ → Begins (tellThen w v) (readThen f f′) (readThen g g′)
-unfolding tellThen tellOn readThen readOn behind
+unfolding tellThen tellOn readThen readOn runAfter
 begins-then {w} {v} {f} {f′} {g} {g′} h k = record { begins = λ x. first (f x) (h .tells x) }
   where
     next : {es fs made : List Entry} {y : Spot} {end : ℕ} {t : Told} {o : Outcome} → Same es fs y made t o
@@ -234,11 +234,11 @@ begins-once {w} {f} {g} h = record { begins = λ x. rw (then-nothing f x, then-n
 -- a struct's entry in front
 begins-root : {w : List Entry → Told} {f g : Spot → Run} (n m : ℕ) → Begins w f g
     → Begins (tellItem struct n (λ a. tellThen w tellNothing)) (readItem head struct n (λ a. readThen f readNothing)) (readItem head struct m (λ a. readThen g readNothing))
-unfolding tellItem readItem head enter behind given following isKnown entries
+unfolding tellItem readItem head enter runAfter given following isKnown entries
 begins-root {w} n m h = record { begins = λ x. go (record { first = 0; second = 0; place = x .place }) (begins-once h .begins (past 0 x)) }
   where
     go : {old : Run} {es : List Entry} {o : Outcome} (e : Entry) → Begun (tellThen w tellNothing) old es o
-        → Begun (tellItem struct n (λ a. tellThen w tellNothing)) (behind (e ∷ []) old) (e ∷ es) o
+        → Begun (tellItem struct n (λ a. tellThen w tellNothing)) (runAfter (e ∷ []) old) (e ∷ es) o
     go e (begun {y} t) = begun {y = y} (part-ahead (record { kind = struct; entry = e } ∷ []) refl t)
     go e Begun.silent = Begun.silent
 

@@ -7,7 +7,7 @@ use Prim.Native.Nat.{ℕ}
 use Rattle.wire.specs.Tests.{given}
 use Rattle.wire.specs.Shape.{Kind}
 use Rattle.wire.specs.Walk.{following, isKnown}
-use Rattle.wire.specs.Values.{Entry, Tag, Told, kept, lacks, short, ahead, tellNothing, tellOn, tellThen, tellItem, telling, tell}
+use Rattle.wire.specs.Values.{Entry, Tag, Told, kept, lacks, short, toldAfter, tellNothing, tellOn, tellThen, tellItem, telling, tell}
 use Rattle.laws.specs.Steps.{Every}
 use Rattle.laws.proofs.Walks.{every}
 use Rattle.promises.specs.OldNew.{entries, over, TellsAll, KeptAgain, LacksAgain}
@@ -18,7 +18,7 @@ entries-append ts us = map-append _ ts us
 
 -- nothing behind a step is the step
 pub told-nothing : (t : Told) → tellOn t tellNothing ≡ t
-unfolding tellOn tellNothing ahead
+unfolding tellOn tellNothing toldAfter
 told-nothing (kept ts rest) = rw (append-nil ts)
 told-nothing (lacks ts e rest) = refl
 told-nothing (short ts) = refl
@@ -28,8 +28,8 @@ told-nothing (short ts) = refl
 record Splits (f : List Entry → Told) : Type 0 where
   whole : (es : List Entry) → over (f es) ≡ es
 
-over-ahead : (ts : List Tag) (t : Told) → over (ahead ts t) ≡ entries ts ++ over t
-unfolding over ahead
+over-ahead : (ts : List Tag) (t : Told) → over (toldAfter ts t) ≡ entries ts ++ over t
+unfolding over toldAfter
 over-ahead ts (kept us rest) = rw (entries-append ts us) (append-assoc (entries ts) (entries us) rest)
 over-ahead ts (lacks us e rest) = rw (entries-append ts us) (append-assoc (entries ts) (entries us) (e ∷ rest))
 over-ahead ts (short us) = entries-append ts us
@@ -52,7 +52,7 @@ unfolding tellItem over given entries
 splits-item {f} k n h = record { whole = go }
   where
     entry : (e : Entry) (es : List Entry) (x : Bool)
-        → over (given x (λ _. ahead (record { kind = k; entry = e } ∷ []) (f (e .first) es)) (lacks [] e es)) ≡ e ∷ es
+        → over (given x (λ _. toldAfter (record { kind = k; entry = e } ∷ []) (f (e .first) es)) (lacks [] e es)) ≡ e ∷ es
     entry e es true = over-ahead (record { kind = k; entry = e } ∷ []) (f (e .first) es) ∙ ap {B = List Entry} (λ l. e ∷ l) (h (e .first) .whole es)
     entry e es false = refl
 
@@ -83,19 +83,19 @@ unfolding tellNothing entries
 again-nothing = record { again = λ es. keeps [] (λ more. refl) }
 
 again-then : {f g : List Entry → Told} → Again f → Again g → Again (tellThen f g)
-unfolding tellThen tellOn ahead
+unfolding tellThen tellOn toldAfter
 again-then {f} {g} h k = record { again = λ es. go (h .again es) }
   where
     on : (ts us : List Tag) (more : List Entry) → ((more : List Entry) → f (entries ts ++ more) ≡ kept ts more)
-        → tellThen f g (entries (ts ++ us) ++ more) ≡ ahead ts (g (entries us ++ more))
+        → tellThen f g (entries (ts ++ us) ++ more) ≡ toldAfter ts (g (entries us ++ more))
     on ts us more h = rw (entries-append ts us, append-assoc (entries ts) (entries us) more, h (entries us ++ more))
 
     few : (ts us : List Tag) → ((more : List Entry) → f (entries ts ++ more) ≡ kept ts more) → g (entries us) ≡ short us
         → tellThen f g (entries (ts ++ us)) ≡ short (ts ++ us)
-    few ts us h k = rw (append-nil (entries (ts ++ us)), append-nil (entries us)) at (on ts us [] h) ∙ ap (ahead ts) k
+    few ts us h k = rw (append-nil (entries (ts ++ us)), append-nil (entries us)) at (on ts us [] h) ∙ ap (toldAfter ts) k
 
-    onto : {t : Told} (ts : List Tag) → ((more : List Entry) → f (entries ts ++ more) ≡ kept ts more) → Retold g t → Retold (tellThen f g) (ahead ts t)
-    onto ts h (keeps us k) = keeps (ts ++ us) (λ more. on ts us more h ∙ ap (ahead ts) (k more))
+    onto : {t : Told} (ts : List Tag) → ((more : List Entry) → f (entries ts ++ more) ≡ kept ts more) → Retold g t → Retold (tellThen f g) (toldAfter ts t)
+    onto ts h (keeps us k) = keeps (ts ++ us) (λ more. on ts us more h ∙ ap (toldAfter ts) (k more))
     onto ts h (loses us k) = loses (ts ++ us) (few ts us h k)
     onto ts h (wants us k) = wants (ts ++ us) (few ts us h k)
 
@@ -105,16 +105,16 @@ again-then {f} {g} h k = record { again = λ es. go (h .again es) }
     go (wants ts h) = wants ts (rw h)
 
 again-item : {f : ℕ → List Entry → Told} (k : Kind) (n : ℕ) → ((a : ℕ) → Again (f a)) → Again (tellItem k n f)
-unfolding tellItem given entries ahead
+unfolding tellItem given entries toldAfter
 again-item {f} k n h = record { again = go }
   where
-    entry : (e : Entry) → isKnown (following k (e .first)) n ≡ true → {t : Told} → Retold (f (e .first)) t → Retold (tellItem k n f) (ahead (record { kind = k; entry = e } ∷ []) t)
+    entry : (e : Entry) → isKnown (following k (e .first)) n ≡ true → {t : Told} → Retold (f (e .first)) t → Retold (tellItem k n f) (toldAfter (record { kind = k; entry = e } ∷ []) t)
     entry e t (keeps ts h) = keeps (record { kind = k; entry = e } ∷ ts) (λ more. rw (t, h more))
     entry e t (loses ts h) = loses (record { kind = k; entry = e } ∷ ts) (rw (t, h))
     entry e t (wants ts h) = wants (record { kind = k; entry = e } ∷ ts) (rw (t, h))
 
     test : (e : Entry) (es : List Entry) (x : Bool) → isKnown (following k (e .first)) n ≡ x
-        → Retold (tellItem k n f) (given x (λ _. ahead (record { kind = k; entry = e } ∷ []) (f (e .first) es)) (lacks [] e es))
+        → Retold (tellItem k n f) (given x (λ _. toldAfter (record { kind = k; entry = e } ∷ []) (f (e .first) es)) (lacks [] e es))
     test e es true t = entry e t (h (e .first) .again es)
     test e es false t = loses [] refl
 

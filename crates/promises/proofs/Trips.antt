@@ -12,9 +12,9 @@ use lib.Seq.{drop-append-seam}
 use Rattle.wire.specs.Tests.{given}
 use Rattle.wire.specs.Shape.{Kind, Shape}
 use Rattle.wire.specs.Walk.{Follow, following, isKnown, Walk, walk}
-use Rattle.wire.specs.Values.{Entry, Tag, Told, kept, ahead, tellNothing, tellOn, tellThen, tellItem, telling, tell, Value, valueOf}
-use Rattle.wire.specs.Reading.{Spot, Run, reached, behind, past, readNothing, readOn, readThen, enter, readItem, head, reading, read}
-use Rattle.wire.specs.Writing.{Left, Wrote, wrote, misfit, after, headBytes, writeNothing, writeOn, writeThen, spell, writeEntry, writeItem, writing, write}
+use Rattle.wire.specs.Values.{Entry, Tag, Told, kept, toldAfter, tellNothing, tellOn, tellThen, tellItem, telling, tell, Value, valueOf}
+use Rattle.wire.specs.Reading.{Spot, Run, reached, runAfter, past, readNothing, readOn, readThen, enter, readItem, head, reading, read}
+use Rattle.wire.specs.Writing.{Left, Wrote, wrote, misfit, wroteAfter, headBytes, writeNothing, writeOn, writeThen, spell, writeEntry, writeItem, writing, write}
 use Rattle.laws.specs.Steps.{Every}
 use Rattle.laws.proofs.Walks.{every}
 use Rattle.laws.proofs.Parts as parts
@@ -45,12 +45,12 @@ unfolding tellNothing
 nothing-tells = record { told = λ rest. refl }
 
 then-tells : {u v : List Entry → Told} {es fs : List Entry} {ts us : List Tag} → Tells u es ts → Tells v fs us → Tells (tellThen u v) (es ++ fs) (ts ++ us)
-unfolding tellThen tellOn ahead
+unfolding tellThen tellOn toldAfter
 then-tells {es} {fs} {ts} {us} a b = record { told = λ rest. rw (append-assoc es fs rest, a .told (fs ++ rest), b .told rest) }
 
 item-tells : (k : Kind) (n : ℕ) (next : ℕ → List Entry → Told) (e : Entry) {es : List Entry} {ts : List Tag} → isKnown (following k (e .first)) n ≡ true
     → Tells (next (e .first)) es ts → Tells (tellItem k n next) (e ∷ es) (record { kind = k; entry = e } ∷ ts)
-unfolding tellItem ahead given
+unfolding tellItem toldAfter given
 item-tells k n next e h a = record { told = λ rest. rw (h, a .told rest) }
 
 -- ---- what is to be shown of the steps of the four walks
@@ -99,7 +99,7 @@ module _ (pool : List ℕ) where
   then-again : {f f′ : Spot → Run} {u u′ : List Entry → Told} {c c′ p : ℕ} {ts us : List Tag} {s t rest message : List ℕ}
       → Again pool f u c ts s p (t ++ rest) message → Again pool f′ u′ c′ us t (p + length s) rest message
       → Again pool (readThen f f′) (tellThen u u′) (c + c′) (ts ++ us) (s ++ t) p rest message
-  unfolding readThen readOn behind
+  unfolding readThen readOn runAfter
   then-again {p} {ts} {us} {s} {t} {rest} {message} a b =
       record {
         made = a .made ++ b .made;
@@ -112,8 +112,8 @@ module _ (pool : List ℕ) where
 
   module _ (f f′ : Spot → Run) (u u′ : List Entry → Told) (v v′ : List Value → Spelling) where
     then-back : {es left : List Entry} {s : List ℕ} → Back pool f u v es s left → (w : Wrote) → GoodBack pool f′ u′ v′ left w
-        → GoodBack pool (readThen f f′) (tellThen u u′) (λ vs. spellOn (v vs) v′) es (after s w)
-    unfolding after
+        → GoodBack pool (readThen f f′) (tellThen u u′) (λ vs. spellOn (v vs) v′) es (wroteAfter s w)
+    unfolding wroteAfter
     then-back a (misfit i) b = tt
     then-back {s} a (wrote t y) b =
         let those : List Value = lists.map (valueOf pool) (a .tags) in
@@ -156,7 +156,7 @@ module _ (pool : List ℕ) where
     item-again : {a b c q p : ℕ} {us : List Tag} {s t rest message : List ℕ} (i : ItemBack k n pool a b s p (t ++ rest) message)
         → isKnown (following k a) n ≡ true → Again pool (F (following k a)) (T (following k a)) c us t (p + length s) rest message
         → Again pool f u (suc c) (tag k a b q ∷ us) (s ++ t) p rest message
-    unfolding readItem enter behind past
+    unfolding readItem enter runAfter past
     item-again {q} {p} {us} {s} {t} {rest} {message} i knows b =
         record {
           made = record { first = i .first; second = i .second; place = p } ∷ b .made;
@@ -170,8 +170,8 @@ module _ (pool : List ℕ) where
 
     item-back : (e : Entry) (es : List Entry) {s : List ℕ} → headBytes k n pool (e .first) (e .second) ≡ some s
         → (w : Wrote) → GoodBack pool (F (following k (e .first))) (T (following k (e .first))) (S (following k (e .first))) es w
-        → GoodBack pool f u v (e ∷ es) (after s w)
-    unfolding after
+        → GoodBack pool f u v (e ∷ es) (wroteAfter s w)
+    unfolding wroteAfter
     item-back e es is (misfit i) b = tt
     item-back e es {s} is (wrote t y) b =
         let spells = item-spells k n pool e is in

@@ -10,11 +10,11 @@ use Rattle.wire.specs.declared.Refusal.{Refusal}
 use Rattle.wire.specs.declared.Refusal.the-variants.{Room}
 use Rattle.wire.specs.declared.ReadAnswer.the-variants.{Done, Refused}
 use Rattle.wire.specs.Values.{Entry}
-use Rattle.wire.specs.Reading.{Spot, Outcome, reached, refused, Run, behind, readNothing, readOn, readThen, within, fit}
+use Rattle.wire.specs.Reading.{Spot, Outcome, reached, refused, Run, runAfter, readNothing, readOn, readThen, within, fit}
 use Rattle.wire.specs.Answers.{readAnswer, wordsPer, words, roomOf}
 use Rattle.laws.proofs.Runs.{fit-then}
-use Rattle.items.specs.Lay.{Left, laid, lay}
-use Rattle.items.proofs.Laying.{left, laid-none, laid-behind, room-sets}
+use Rattle.read_item.specs.Lay.{Left, laid, lay}
+use Rattle.read_item.proofs.Laying.{left, laid-none, laid-behind, room-sets}
 use Rattle.reader.specs.Steps.{Gives}
 
 -- ---- where a run was left, as an answer
@@ -52,12 +52,12 @@ lay-then f g x m s = ap (λ r. laid r m s) (fit-then (roomOf s - m) f g x) ∙ g
 -- ---- one entry in front
 
 module _ (e : Entry) (r : Run) (m : ℕ) (s : List ℕ) where
-  pub lay-entry : m < roomOf s → lay (behind (e ∷ []) r) m s ≡ lay r (m + 1) (sets s (wordsPer * m) (words (e ∷ [])))
-  unfolding lay fit within behind
+  pub lay-entry : m < roomOf s → lay (runAfter (e ∷ []) r) m s ≡ lay r (m + 1) (sets s (wordsPer * m) (words (e ∷ [])))
+  unfolding lay fit within runAfter
   lay-entry h =
       let one : roomOf s - m ≡ suc (roomOf s - (m + 1)) = omega arith in
       rw (one, room-sets s (wordsPer * m) (words (e ∷ []))) (laid-behind (e ∷ []) (within (roomOf s - (m + 1)) (r .made) (r .ends)) m s)
 
-  pub lay-full : roomOf s ≤ m → lay (behind (e ∷ []) r) m s ≡ left (refused Room (e .place)) m s
-  unfolding lay fit within behind
+  pub lay-full : roomOf s ≤ m → lay (runAfter (e ∷ []) r) m s ≡ left (refused Room (e .place)) m s
+  unfolding lay fit within runAfter
   lay-full h = let none : roomOf s - m ≡ 0 = omega arith in rw none (laid-none (refused Room (e .place)) m s)

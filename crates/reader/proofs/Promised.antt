@@ -15,7 +15,7 @@ use Rattle.wire.specs.declared.ReadAnswer.{ReadAnswer}
 use Rattle.wire.specs.declared.ReadAnswer.the-variants.{Done, Refused}
 use Rattle.wire.specs.Table.{check, shapeOf}
 use Rattle.wire.specs.Values.{Entry}
-use Rattle.wire.specs.Reading.{Spot, past, Outcome, reached, refused, Run, front, head, behind, reading, read, within, fit}
+use Rattle.wire.specs.Reading.{Spot, past, Outcome, reached, refused, Run, front, head, runAfter, reading, read, within, fit}
 use Rattle.wire.specs.Answers.{words, roomOf, readBy, readAnswer, restOf, storeWith, reads}
 use Rattle.laws.specs.Bounds.{Stays, reaches, refuses}
 use Rattle.laws.specs.Tables.{nodeShape}
@@ -28,8 +28,8 @@ use Rattle.laws.proofs.Tables.{good-table}
 use Rattle.laws.proofs.Unique.{by-equation}
 use Rattle.table.proofs.Stretches.{root-number}
 use Rattle.table.specs.declared.Way.{Way}
-use Rattle.items.specs.Lay.{laid, lay}
-use Rattle.items.specs.Steps.{readRow, headed, readRounds}
+use Rattle.read_item.specs.Lay.{laid, lay}
+use Rattle.read_item.specs.Steps.{readRow, headed, readRounds}
 use Rattle.reader.proofs.Rounds.{SameReading}
 use Rattle.reader.proofs.Turns.{flat-rounds}
 use Rattle.reader.specs.Steps.{Gives}
@@ -38,7 +38,7 @@ use Rattle.reader.specs.Promise.{Reads, RestIsLeft, OneReading, OneRest}
 -- ---- the store
 
 few : (room : ℕ) (es : List Entry) (o : Outcome) → length (within room es o .made) ≤ room
-unfolding within behind
+unfolding within runAfter
 few room [] (reached x) = omega arith
 few zero [] (refused e p) = omega arith
 few (suc room) [] (refused e p) = omega arith

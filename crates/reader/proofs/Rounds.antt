@@ -11,15 +11,15 @@ use Rattle.wire.specs.declared.Layout.{Layout}
 use Rattle.wire.specs.declared.ReadAnswer.the-variants.{Refused}
 use Rattle.wire.specs.Shape.{struct}
 use Rattle.wire.specs.Values.{Entry}
-use Rattle.wire.specs.Reading.{Spot, Outcome, reached, refused, Run, head, behind, readOn, readThen, past, enter, readItem, reading}
+use Rattle.wire.specs.Reading.{Spot, Outcome, reached, refused, Run, head, runAfter, readOn, readThen, past, enter, readItem, reading}
 use Rattle.wire.specs.Answers.{words, wordsOf}
 use Rattle.laws.specs.Tables.{GoodTable}
 use Rattle.laws.proofs.Runs.{then-nothing}
 use Rattle.table.specs.declared.Way.{Way}
 use Rattle.table.specs.Parts.{Falls, Flat, under}
 use Rattle.table.proofs.Stretches.{flat-falls, flat-same}
-use Rattle.items.specs.Lay.{Left, lay}
-use Rattle.items.specs.Steps.{spot, readRow, headed}
+use Rattle.read_item.specs.Lay.{Left, lay}
+use Rattle.read_item.specs.Steps.{spot, readRow, headed}
 use Rattle.reader.specs.declared.Begun.{Begun}
 use Rattle.reader.specs.declared.Begun.the-variants.{At, Full}
 use Rattle.reader.specs.Steps.{Gives, Begins, bare, put, full}
@@ -45,13 +45,13 @@ flat-reads g h f =
 
 -- ---- the front of a round
 
-then-headed : (f g : Spot → Run) (x : Spot) → readThen (headed true f) g x ≡ behind (record { first = 0; second = 0; place = x .place } ∷ []) (readThen f g x)
-unfolding headed readThen behind
+then-headed : (f g : Spot → Run) (x : Spot) → readThen (headed true f) g x ≡ runAfter (record { first = 0; second = 0; place = x .place } ∷ []) (readThen f g x)
+unfolding headed readThen runAfter
 then-headed f g x = go (f x .made) (f x .ends)
   where
-    go : (es : List Entry) (o : Outcome) → readOn (record { first = 0; second = 0; place = x .place } ∷ es) o g ≡ behind (record { first = 0; second = 0; place = x .place } ∷ []) (readOn es o g)
-    go es (reached y) = unfold readOn behind in refl
-    go es (refused e p) = unfold readOn behind in refl
+    go : (es : List Entry) (o : Outcome) → readOn (record { first = 0; second = 0; place = x .place } ∷ es) o g ≡ runAfter (record { first = 0; second = 0; place = x .place } ∷ []) (readOn es o g)
+    go es (reached y) = unfold readOn runAfter in refl
+    go es (refused e p) = unfold readOn runAfter in refl
 
 module _ (f g : Spot → Run) (w : Left) (bs : List ℕ) (at : ℕ) where
   pub begun-full : {h : Bool} {s st : List ℕ} {m : ℕ} {r : Begun} → Begins h s m r st → w ≡ lay (readThen (headed h f) g (spot bs at)) m s → r ≡ Full → Gives w (Refused Room at m) st

@@ -24,13 +24,13 @@ use Rattle.laws.proofs.Runs.{fit-reached}
 use Rattle.leaf.specs.Leaves.{takeAt}
 use Rattle.table.specs.declared.Stretch.{Stretch}
 use Rattle.table.specs.declared.Way.{Way}
-use Rattle.items.specs.declared.Entered.{Entered}
-use Rattle.items.specs.declared.Entered.the-variants.{On}
-use Rattle.items.specs.declared.Entered.the-variants as entered
-use Rattle.items.specs.Lay.{Left, laid, lay}
-use Rattle.items.specs.Steps.{spot, readNode, readRow, headed, readRounds, Puts, entry, same, Goes, Enters, goes, stops}
-use Rattle.items.proofs.Entering.{Found, number-small, leads-nowhere, enters-refused, goes-on}
-use Rattle.items.proofs.Heads.{head-leaf}
+use Rattle.read_item.specs.declared.Entered.{Entered}
+use Rattle.read_item.specs.declared.Entered.the-variants.{On}
+use Rattle.read_item.specs.declared.Entered.the-variants as entered
+use Rattle.read_item.specs.Lay.{Left, laid, lay}
+use Rattle.read_item.specs.Steps.{spot, readNode, readRow, headed, readRounds, Puts, entry, same, Goes, Enters, goes, stops}
+use Rattle.read_item.proofs.Entering.{Found, number-small, leads-nowhere, enters-refused, goes-on}
+use Rattle.read_item.proofs.Heads.{head-leaf}
 use Rattle.reader.specs.Steps.{Gives}
 use Rattle.reader.proofs.Rounds.{SameReading}
 use Rattle.reader.proofs.Laying.{gives-refused, gives-done, lay-nothing, onBy, lay-then}

@@ -7,7 +7,7 @@ use Prim.Native.Nat.{ℕ, _+_, _*_, _≤_, _<_}
 use lib.Seq.{sets}
 use Rattle.wire.specs.declared.ReadAnswer.{ReadAnswer}
 use Rattle.wire.specs.Answers.{wordsPer, roomOf, readAnswer}
-use Rattle.items.specs.Lay.{Left}
+use Rattle.read_item.specs.Lay.{Left}
 use Rattle.reader.specs.declared.Begun.{Begun}
 use Rattle.reader.specs.declared.Begun.the-variants.{At, Full}
 

@@ -1,5 +1,5 @@
 // Reading a message by a table.
-use items::Entered;
+use read_item::Entered;
 use wire::Checked;
 use wire::Layout;
 use wire::ReadAnswer;
@@ -10,8 +10,8 @@ ghost use lib.ListN.{length};
 ghost use Rattle.wire.specs.Answers.{reads, restOf};
 ghost use Rattle.laws.specs.Tables.{GoodTable};
 ghost use Rattle.table.specs.Parts.{Falls};
-ghost use Rattle.items.specs.Lay.{lay};
-ghost use Rattle.items.specs.Steps.{spot, readNode, readRow, readRounds, Inner};
+ghost use Rattle.read_item.specs.Lay.{lay};
+ghost use Rattle.read_item.specs.Steps.{spot, readNode, readRow, readRounds, Inner};
 ghost use Rattle.reader.specs.Steps.{Gives, Begins};
 ghost use Rattle.reader.specs.Promise.{Reads};
 
@@ -31,7 +31,7 @@ fn begin(headed: bool, store: &mut [u64], made: usize) -> Begun
         if room <= made {
             return Begun::Full;
         }
-        items::put_entry(store, made, 0, 0);
+        read_item::put_entry(store, made, 0, 0);
         let next = made + 1;
         return Begun::At { made: next };
     }
@@ -65,7 +65,7 @@ fn read_item(
     let number = table::kind_at(table, l, node);
     match number {
         15..=19 => read_inner(table, l, node, number, part, place, store, made),
-        _ => items::read_leaf(number, part, place, store, made),
+        _ => read_item::read_leaf(number, part, place, store, made),
     }
 }
 
@@ -87,7 +87,7 @@ fn read_inner(
     requires { ⌜ place + length (now part) < 2 ^ 64 ⌝ }
     ensures { λ r. ⌜ Gives (lay (readNode (now (table .entry)) l node (spot (now (part .entry)) place)) made (now (store .entry))) r (now (store .exit)) ⌝ }
 {
-    let entered = items::enter(table, l, node, number, part, place, store, made);
+    let entered = read_item::enter(table, l, node, number, part, place, store, made);
     match entered {
         Entered::Refused { why } => ReadAnswer::Refused {
             why,

@@ -1,13 +1,13 @@
 // Asks again what a record asked, and compares the whole of the answer with the record's. HOW.md has
 // the order of a record's parts.
-use records::field;
-use records::memory;
+use recorded::field;
+use recorded::memory;
+use say::number;
 use wire::AskAnswer;
 use wire::ReadAnswer;
 use wire::Side;
 use wire::TakeAnswer;
 use wire::WriteAnswer;
-use words::number;
 ghost use mathlib.Core.Path.{_≡_};
 ghost use Rattle.wire.specs.Answers.{readSays, writeSays, askSays, takeSays};
 ghost use Rattle.replay.specs.Told.{sideNumber, Tells, made, which};

@@ -4,10 +4,10 @@ mod compare;
 
 use compare::Kind;
 use libc::STDOUT_FILENO;
-use records::field;
-use records::memory;
-use words::say;
-use words::say_with;
+use recorded::field;
+use recorded::memory;
+use say::say;
+use say::say_with;
 ghost use Prim.Native.Nat.{_+_, _^_, _<_, _≤_};
 
 // How many records were replayed, and how many of them agree.

@@ -1,14 +1,14 @@
 // Writes a value of every kind, reads it back with bytes behind it, and writes what was read again; and writes lists that
 // are refused. crates/records/make has them.
-use records::field::part;
-use records::memory::put_words;
+use recorded::field::part;
+use recorded::memory::put_words;
+use say::say;
+use say::say_bytes;
+use say::say_entries;
+use say::say_why;
+use say::say_with;
 use wire::ReadAnswer;
 use wire::WriteAnswer;
-use words::say;
-use words::say_bytes;
-use words::say_entries;
-use words::say_why;
-use words::say_with;
 
 // So many value lists are to be written, of which the longest has so many words.
 const LISTS: usize = 15;

@@ -1,6 +1,6 @@
 // A file named by a word of the command, whole or not at all.
-use words::say;
-use words::say_with;
+use say::say;
+use say::say_with;
 ghost use mathlib.Core.Path.{_≡_};
 ghost use lib.ListN.{length};
 ghost use Rattle.io.specs.Counts.{Counts};

@@ -2,11 +2,11 @@
 use crate::files;
 use accumulator::Accumulator;
 use accumulator::Fed;
+use say::front;
+use say::say;
+use say::say_bytes;
+use say::say_with;
 use wire::FeedAnswer;
-use words::front;
-use words::say;
-use words::say_bytes;
-use words::say_with;
 ghost use Prim.Native.Nat.{_+_, _^_, _≤_, _<_};
 ghost use lib.ListN.{length};
 ghost use Rattle.wire.specs.Frames.{room};

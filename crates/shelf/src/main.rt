@@ -15,7 +15,7 @@ enum Verb {
 }
 
 fn say_usage() {
-    words::say(
+    say::say(
         b"shelf table FILE                    is the table good? its shape as a tree\n\
         shelf read TABLE MESSAGE            each entry of the message on a line, and the rest\n\
         shelf append OLD NEW                does the new table only append to the old one?\n\

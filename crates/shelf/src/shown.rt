@@ -1,7 +1,7 @@
 // What is shown of a message, and of two tables side by side.
 use crate::files;
 use parting::Parting;
-use words::say;
+use say::say;
 
 // Reads a message by a table. There is room for 16,384 entries.
 pub fn read(table: &[u8], message: &[u8]) {
@@ -14,7 +14,7 @@ pub fn read(table: &[u8], message: &[u8]) {
 // Asks whether a new table only appends to an old one.
 pub fn ask(old: &[u8], new: &[u8]) {
     let mut path = [0u64; 256];
-    match parting::parts(old, new, &mut path) {
+    match parting::find(old, new, &mut path) {
         Parting::Appends => say(b"yes: the new table only appends to the old one.\n"),
         Parting::Apart { depth } => listing::apart::show(old, new, &path, depth),
         Parting::Refused { side, why, place } => listing::apart::show_bad(side, why, place),

@@ -1,11 +1,11 @@
 // A value list, written as a message.
 use crate::files;
+use say::front;
+use say::say;
+use say::say_why;
+use say::say_with;
 use wire::Item;
 use wire::WriteAnswer;
-use words::front;
-use words::say;
-use words::say_why;
-use words::say_with;
 ghost use Prim.Native.Nat.{_≤_};
 ghost use lib.ListN.{length};
 

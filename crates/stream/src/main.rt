@@ -2,11 +2,11 @@
 // number and name, how long the rest is, the state's idx, and a frame's message in hex.
 use accumulator::Accumulator;
 use accumulator::Fed;
+use say::front;
+use say::say;
+use say::say_bytes;
+use say::say_number;
 use wire::FeedAnswer;
-use words::front;
-use words::say;
-use words::say_bytes;
-use words::say_number;
 ghost use Prim.Native.Nat.{_≤_, _<_};
 ghost use Rattle.wire.specs.Frames.{room};
 

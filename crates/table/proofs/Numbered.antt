@@ -9,7 +9,7 @@ use lib.Dec.{eqb, ltb, leb}
 use borrow.Author.Tests.{eq-eqb, ne-eqb, le-leb, lt-ltb, le-ltb, ltb-true}
 use Rattle.wire.specs.declared.Layout.{Layout}
 use Rattle.wire.specs.Tests.{pick, given, both}
-use Rattle.wire.specs.Shape.{Leaf, Content, Kind, plain, pooled}
+use Rattle.wire.specs.Shape.{Plain, Content, Kind, plain, pooled}
 use Rattle.wire.specs.Walk.{following, isKnown}
 use Rattle.wire.specs.Table.{u16At, kinds, isKind, kindOf, recordOf, firstChild, childCount, below, goodPlaces, goodKind}
 use Rattle.laws.proofs.Splits.{by-lt, by-eq}
@@ -51,7 +51,7 @@ module _ (s : List ℕ) (l : Layout) (i k a b : ℕ) where
   abbrev Alone : Kind → Type 0
   Alone q = both (eqb a 0) (eqb b 0) ≡ goodKind s l i q a b
 
-  alone-plain : (x : Leaf) → Alone (plain x)
+  alone-plain : (x : Plain) → Alone (plain x)
   unfolding goodKind goodPlaces childCount below
   alone-plain x = given-true _
 

@@ -4,7 +4,7 @@ use mathlib.Core.Path.{refl}
 use Rattle.wire.specs.Tests.{pick, both}
 use Rattle.wire.specs.Numbers.{most, last, low, varintF, varint}
 use Rattle.wire.specs.Text.{widthOf, lowOf, highOf, utf8F, utf8, leadPart, sixes, firstChar}
-use Rattle.wire.specs.Reading.{counted, charOf, readLeaf}
+use Rattle.wire.specs.Reading.{counted, charOf, readPlain}
 use Rattle.laws.proofs.Utf8.{char-text, first-char-of}
 use Rattle.utf8.specs.Laws.{CharIsText, FirstIsChar, Cases}
 
@@ -15,5 +15,5 @@ pub first-is-char : FirstIsChar
 first-is-char s h valid = let f = first-char-of s h valid in (f .is-char, f .front)
 
 pub cases : Cases
-unfolding pick both most last low varintF varint widthOf lowOf highOf utf8F utf8 leadPart sixes firstChar counted charOf readLeaf
+unfolding pick both most last low varintF varint widthOf lowOf highOf utf8F utf8 leadPart sixes firstChar counted charOf readPlain
 cases = (refl, refl, refl, refl, refl)

@@ -5,11 +5,11 @@ use mathlib.Core.Bool.{true}
 use mathlib.Core.List.{List, [], _∷_}
 use Prim.Native.Nat.{ℕ, _<_}
 use lib.ListN.{length, take}
-use Rattle.wire.specs.declared.Refusal.the-variants.{End, Char}
+use Rattle.wire.specs.declared.Refusal.the-variants.{End, BadChar}
 use Rattle.wire.specs.declared.Item.the-variants.{Took, Refused}
 use Rattle.wire.specs.Shape.{char}
 use Rattle.wire.specs.Text.{utf8, firstChar, isChar, charBytes}
-use Rattle.wire.specs.Reading.{readLeaf}
+use Rattle.wire.specs.Reading.{readPlain}
 
 -- a code point's bytes are a text whose first char it is
 abbrev pub CharIsText : Type 0
@@ -23,8 +23,8 @@ FirstIsChar = (s : List ℕ) → 0 < length s → utf8 s ≡ true
 -- document 01's cases 9 to 11, and what it warns of: four is tested before the end, and all the bytes are
 abbrev pub Cases : Type 0
 Cases =
-    (readLeaf char (0x02 ∷ 0x61 ∷ 0x62 ∷ []) ≡ Took 97 0 3)
-    × (readLeaf char (0x05 ∷ []) ≡ Refused Char)
-    × (readLeaf char (0x00 ∷ []) ≡ Refused Char)
-    × (readLeaf char (0x04 ∷ []) ≡ Refused End)
-    × (readLeaf char (0x03 ∷ 0x61 ∷ 0x62 ∷ 0xff ∷ []) ≡ Refused Char)
+    (readPlain char (0x02 ∷ 0x61 ∷ 0x62 ∷ []) ≡ Took 97 0 3)
+    × (readPlain char (0x05 ∷ []) ≡ Refused BadChar)
+    × (readPlain char (0x00 ∷ []) ≡ Refused BadChar)
+    × (readPlain char (0x04 ∷ []) ≡ Refused End)
+    × (readPlain char (0x03 ∷ 0x61 ∷ 0x62 ∷ 0xff ∷ []) ≡ Refused BadChar)

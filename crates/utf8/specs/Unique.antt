@@ -7,7 +7,7 @@ use Prim.Native.Nat.{ℕ}
 use Rattle.wire.specs.declared.Item.{Item}
 use Rattle.wire.specs.Shape.{char, pooled}
 use Rattle.wire.specs.Text.{utf8, firstChar, isChar}
-use Rattle.wire.specs.Reading.{isContent, readLeaf, head}
+use Rattle.wire.specs.Reading.{isContent, readPlain, head}
 use Rattle.laws.specs.Unique.{Unique}
 use Rattle.utf8.specs.Chars.{Form}
 use Rattle.utf8.specs.Contents.{contentIf}
@@ -26,7 +26,7 @@ abbrev pub OneCharBytes : Type 0
 OneCharBytes = (c : ℕ) → Unique (λ (r : List ℕ × ℕ). Form c (r .0) (r .1))
 
 abbrev pub OneTakeChar : Type 0
-OneTakeChar = (s : List ℕ) → Unique (λ (r : Item). r ≡ readLeaf char s)
+OneTakeChar = (s : List ℕ) → Unique (λ (r : Item). r ≡ readPlain char s)
 
 abbrev pub OneIsContent : Type 0
 OneIsContent = (text : Bool) (s : List ℕ) → Unique (λ (r : Bool). r ≡ isContent (contentIf text) s)

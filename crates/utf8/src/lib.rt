@@ -9,7 +9,7 @@ ghost use lib.ListN.{length, drop};
 ghost use Rattle.wire.specs.Tests.{both};
 ghost use Rattle.wire.specs.Text.{widthOf, utf8, firstChar, isChar};
 ghost use Rattle.wire.specs.Shape.{char, pooled};
-ghost use Rattle.wire.specs.Reading.{charOf, isContent, contentOf, readLeaf, head};
+ghost use Rattle.wire.specs.Reading.{charOf, isContent, contentOf, readPlain, head};
 ghost use Rattle.utf8.specs.Scan.{AreWidths, isSecond, Lead, Start, Same, After};
 ghost use Rattle.utf8.specs.Chars.{leadOf, overOf, Form};
 ghost use Rattle.utf8.specs.Contents.{contentIf};
@@ -307,7 +307,9 @@ fn char_of(part: &[u8], count: u64, used: usize) -> Item
     ensures { λ r. ⌜ r ≡ charOf count used (now (part .entry)) ⌝ }
 {
     if 4 < count {
-        return Item::Refused { why: Refusal::Char };
+        return Item::Refused {
+            why: Refusal::BadChar,
+        };
     }
     let n = count as usize;
     if part.len() < n {
@@ -316,10 +318,14 @@ fn char_of(part: &[u8], count: u64, used: usize) -> Item
     let bytes = &part[..n];
     let ok = is_text(bytes);
     if !ok {
-        return Item::Refused { why: Refusal::Char };
+        return Item::Refused {
+            why: Refusal::BadChar,
+        };
     }
     if n == 0 {
-        return Item::Refused { why: Refusal::Char };
+        return Item::Refused {
+            why: Refusal::BadChar,
+        };
     }
     let first = first_char(bytes);
     let end = used + n;
@@ -332,7 +338,7 @@ fn char_of(part: &[u8], count: u64, used: usize) -> Item
 
 // The char at the start of `part`.
 pub fn take_char(part: &[u8]) -> Item
-    ensures { λ r. ⌜ r ≡ readLeaf char (now (part .entry)) ⌝ }
+    ensures { λ r. ⌜ r ≡ readPlain char (now (part .entry)) ⌝ }
 {
     let got = varint::take(part, varint::U64::MOST, varint::U64::LAST);
     let Item::Took {
@@ -367,7 +373,9 @@ fn content_of(part: &[u8], count: u64, used: usize, text: bool) -> Item
     let n = count as usize;
     let ok = is_content(&part[..n], text);
     if !ok {
-        return Item::Refused { why: Refusal::Utf8 };
+        return Item::Refused {
+            why: Refusal::BadUtf8,
+        };
     }
     let end = used + n;
     Item::Took {

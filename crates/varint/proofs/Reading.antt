@@ -7,7 +7,7 @@ use native.Mathlib.Nat.{zero-add, one-mul, mul-one, mul-add, mul-assoc, mul-le-m
 use native.Mathlib.Omega.{arith}
 use lib.ListN.{length, getD, drop, drop-of-length-le}
 use borrow.Author.Tests.{lt-ltb, le-ltb, le-leb, lt-leb, ne-eqb}
-use Rattle.wire.specs.declared.Refusal.the-variants.{End, Varint}
+use Rattle.wire.specs.declared.Refusal.the-variants.{End, BadVarint}
 use Rattle.wire.specs.declared.Item.{Item}
 use Rattle.wire.specs.declared.Item.the-variants.{Took, Refused}
 use Rattle.wire.specs.Tests.{pick, both}
@@ -122,7 +122,7 @@ start s (suc k) top h =
       same = rw (lt-ltb top (limitOf (suc k)) h) (finish-zero _ s _ (in-range (suc k) top s));
     }
 
-pub refused : (s : List ℕ) (most top : ℕ) → limitOf most ≤ top → Refused Varint ≡ takes most top s
+pub refused : (s : List ℕ) (most top : ℕ) → limitOf most ≤ top → Refused BadVarint ≡ takes most top s
 unfolding takes pick
 refused s most top h = rw (le-ltb top (limitOf most) h)
 
@@ -147,7 +147,7 @@ module _ {s : List ℕ} {most top value scale i : ℕ} (r : Reading s most top v
     unfolding varints
     last-good e b = rw (next s i h, is-last e, le-leb _ _ b) at (r .same)
 
-    pub last-bad : i + 1 ≡ most → top < getD s i 0 → Refused Varint ≡ takes most top s
+    pub last-bad : i + 1 ≡ most → top < getD s i 0 → Refused BadVarint ≡ takes most top s
     unfolding varints
     last-bad e b = rw (next s i h, is-last e, lt-leb _ _ b) at (r .same)
 

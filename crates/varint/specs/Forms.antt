@@ -4,7 +4,7 @@ use mathlib.Core.Path.{_≡_}
 use mathlib.Core.List.{List, [], _∷_, _++_}
 use Prim.Native.Nat.{ℕ, zero, suc, _+_, _/_, _%_, _^_, _<_, _≤_}
 use lib.ListN.{length}
-use Rattle.wire.specs.declared.Refusal.the-variants.{End, Varint}
+use Rattle.wire.specs.declared.Refusal.the-variants.{End, BadVarint}
 use Rattle.wire.specs.declared.Item.the-variants.{Took, Refused}
 use Rattle.wire.specs.Shape.{Width, w16, bits}
 use Rattle.wire.specs.Numbers.{most, last, varint}
@@ -26,7 +26,7 @@ pub data AreHigh : List ℕ → Type 0 where
 
 -- the last allowed byte is too large, as every byte is whose high bit is set
 abbrev pub LastTooLarge : Type 0
-LastTooLarge = (w : Width) (s : List ℕ) (b : ℕ) (rest : List ℕ) → AreHigh s → length s + 1 ≡ most w → last w < b → varint w (s ++ (b ∷ rest)) ≡ Refused Varint
+LastTooLarge = (w : Width) (s : List ℕ) (b : ℕ) (rest : List ℕ) → AreHigh s → length s + 1 ≡ most w → last w < b → varint w (s ++ (b ∷ rest)) ≡ Refused BadVarint
 
 -- a message that ends inside: the end comes first, whatever might have followed
 abbrev pub EndsInside : Type 0
@@ -36,6 +36,6 @@ EndsInside = (w : Width) (s : List ℕ) → AreHigh s → length s < most w → 
 abbrev pub Cases : Type 0
 Cases =
     (varint w16 (0xff ∷ 0xff ∷ 0x03 ∷ []) ≡ Took 65535 0 3)
-    × (varint w16 (0x80 ∷ 0x80 ∷ 0x04 ∷ []) ≡ Refused Varint)
+    × (varint w16 (0x80 ∷ 0x80 ∷ 0x04 ∷ []) ≡ Refused BadVarint)
     × (varint w16 (0x80 ∷ 0x00 ∷ []) ≡ Took 0 0 2)
     × (varint w16 (0x80 ∷ 0x80 ∷ []) ≡ Refused End)

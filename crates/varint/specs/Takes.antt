@@ -4,7 +4,7 @@ use mathlib.Core.Path.{_≡_}
 use mathlib.Core.List.{List}
 use Prim.Native.Nat.{ℕ}
 use lib.Dec.{ltb, leb, eqb}
-use Rattle.wire.specs.declared.Refusal.the-variants.{Varint}
+use Rattle.wire.specs.declared.Refusal.the-variants.{BadVarint}
 use Rattle.wire.specs.declared.Item.{Item}
 use Rattle.wire.specs.declared.Item.the-variants.{Refused}
 use Rattle.wire.specs.Tests.{pick, both}
@@ -17,7 +17,7 @@ limitOf k = pick (both (leb 1 k) (leb k 9)) 128 (pick (eqb k 10) 2 0)
 
 -- other constants refuse every message
 unfoldable pub takes : ℕ → ℕ → List ℕ → Item
-takes k top s = pick (ltb top (limitOf k)) (varintF k top s) (Refused Varint)
+takes k top s = pick (ltb top (limitOf k)) (varintF k top s) (Refused BadVarint)
 
 -- a width's constants take the width's varints
 abbrev pub AtWidth : Type 0

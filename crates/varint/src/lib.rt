@@ -52,7 +52,7 @@ pub fn take(part: &[u8], most: usize, last: u64) -> Item
 {
     if limit(most) <= last {
         return Item::Refused {
-            why: Refusal::Varint,
+            why: Refusal::BadVarint,
         };
     }
     let mut value: u64 = 0;
@@ -71,7 +71,7 @@ pub fn take(part: &[u8], most: usize, last: u64) -> Item
                 };
             }
             return Item::Refused {
-                why: Refusal::Varint,
+                why: Refusal::BadVarint,
             };
         }
         let sum = value + scale * (b % 128);

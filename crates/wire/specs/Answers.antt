@@ -6,7 +6,7 @@ use Prim.Native.Nat.{ℕ, _+_, _/_, _%_}
 use lib.ListN.{length, drop}
 use lib.Dec.{leb, ltb, eqb}
 use Rattle.wire.specs.declared.Refusal.{Refusal}
-use Rattle.wire.specs.declared.Refusal.the-variants.{Trailer, Record, End, Varint, Bool as BadBool, Char, Utf8, Option as BadOption, Variant, Room, Values, Full}
+use Rattle.wire.specs.declared.Refusal.the-variants.{Trailer, Record, End, BadVarint, BadBool, BadChar, BadUtf8, BadOption, Variant, Room, Values, Full}
 use Rattle.wire.specs.declared.Checked.{Checked}
 use Rattle.wire.specs.declared.Checked.the-variants.{Good, Bad}
 use Rattle.wire.specs.declared.Item.{Item}
@@ -36,10 +36,10 @@ abbrev pub refusalNumber : Refusal → ℕ
 refusalNumber Trailer = 1
 refusalNumber Record = 2
 refusalNumber End = 3
-refusalNumber Varint = 4
+refusalNumber BadVarint = 4
 refusalNumber BadBool = 5
-refusalNumber Char = 6
-refusalNumber Utf8 = 7
+refusalNumber BadChar = 6
+refusalNumber BadUtf8 = 7
 refusalNumber BadOption = 8
 refusalNumber Variant = 9
 refusalNumber Room = 10

@@ -5,7 +5,7 @@ use mathlib.Core.List.{List, [], _∷_, reverse}
 use Prim.Native.Nat.{ℕ, zero, suc, _+_, _-_, _*_, _/_, _%_, _^_}
 use lib.ListN.{length, take}
 use lib.Dec.{ltb, leb, eqb}
-use Rattle.wire.specs.declared.Refusal.the-variants.{End, Varint}
+use Rattle.wire.specs.declared.Refusal.the-variants.{End, BadVarint}
 use Rattle.wire.specs.declared.Item.{Item}
 use Rattle.wire.specs.declared.Item.the-variants.{Took, Refused}
 use Rattle.wire.specs.Tests.{pick}
@@ -31,9 +31,9 @@ low b (Refused e) = Refused e
 
 -- a varint of at most so many bytes, of which the last allowed is at most `top`
 unfoldable pub varintF : ℕ → ℕ → List ℕ → Item
-varintF zero top s = Refused Varint
+varintF zero top s = Refused BadVarint
 varintF (suc k) top [] = Refused End
-varintF (suc zero) top (b ∷ s) = pick (leb b top) (Took b 0 1) (Refused Varint)
+varintF (suc zero) top (b ∷ s) = pick (leb b top) (Took b 0 1) (Refused BadVarint)
 varintF (suc (suc k)) top (b ∷ s) = pick (ltb b 128) (Took b 0 1) (low b (varintF (suc k) top s))
 
 unfoldable pub varint : Width → List ℕ → Item

@@ -6,11 +6,11 @@ use Prim.Native.Nat.{ℕ, zero, suc, _+_}
 use lib.ListN.{length, take, drop}
 use lib.Dec.{ltb, leb}
 use Rattle.wire.specs.declared.Refusal.{Refusal}
-use Rattle.wire.specs.declared.Refusal.the-variants.{End, Bool as BadBool, Char, Utf8, Option as BadOption, Variant, Room}
+use Rattle.wire.specs.declared.Refusal.the-variants.{End, BadBool, BadChar, BadUtf8, BadOption, Variant, Room}
 use Rattle.wire.specs.declared.Item.{Item}
 use Rattle.wire.specs.declared.Item.the-variants.{Took, Refused}
 use Rattle.wire.specs.Tests.{pick, both}
-use Rattle.wire.specs.Shape.{bits, size, w32, w64, signed, Leaf, bool, i8, u8, f32, f64, char, unit, int, fixed, Content, text, raw, Kind, plain, pooled, option, sequence, map, struct, enum, Shape}
+use Rattle.wire.specs.Shape.{bits, size, w32, w64, signed, Plain, bool, i8, u8, f32, f64, char, unit, int, fixed, Content, text, raw, Kind, plain, pooled, option, sequence, map, struct, enum, Shape}
 use Rattle.wire.specs.Walk.{Walk, walk}
 use Rattle.wire.specs.Values.{Entry}
 use Rattle.wire.specs.Numbers.{varint, word, unzigzagged, onFirst, little, inOrder, wordOf}
@@ -31,9 +31,9 @@ counted (Refused e) f = Refused e
 -- c bytes behind a count that took n: at most four, then there, then UTF-8 with a char
 unfoldable pub charOf : ℕ → ℕ → List ℕ → Item
 charOf c n s =
-    pick (ltb 4 c) (Refused Char)
+    pick (ltb 4 c) (Refused BadChar)
     (pick (ltb (length s) c) (Refused End)
-    (pick (both (ltb 0 c) (utf8 (take c s))) (Took (firstChar (take c s)) 0 (n + c)) (Refused Char)))
+    (pick (both (ltb 0 c) (utf8 (take c s))) (Took (firstChar (take c s)) 0 (n + c)) (Refused BadChar)))
 
 unfoldable pub isContent : Content → List ℕ → Bool
 isContent text s = utf8 s
@@ -42,18 +42,18 @@ isContent raw s = true
 -- c bytes behind a count that took n and stands at the place p
 unfoldable pub contentOf : Content → ℕ → ℕ → ℕ → List ℕ → Item
 contentOf k p c n s =
-    pick (ltb (length s) c) (Refused End) (pick (isContent k (take c s)) (Took (p + n) c (n + c)) (Refused Utf8))
+    pick (ltb (length s) c) (Refused End) (pick (isContent k (take c s)) (Took (p + n) c (n + c)) (Refused BadUtf8))
 
-unfoldable pub readLeaf : Leaf → List ℕ → Item
-readLeaf bool s = flag BadBool s
-readLeaf i8 s = wordOf 1 (λ b. word signed 8 (little b)) s
-readLeaf u8 s = wordOf 1 little s
-readLeaf f32 s = wordOf 4 little s
-readLeaf f64 s = wordOf 8 little s
-readLeaf char s = counted (varint w64 s) (λ c n. charOf c n (drop n s))
-readLeaf unit s = Took 0 0 0
-readLeaf (int g w) s = onFirst (unzigzagged g) (varint w s)
-readLeaf (fixed o g w) s = wordOf (size w) (λ b. word g (bits w) (little (inOrder o b))) s
+unfoldable pub readPlain : Plain → List ℕ → Item
+readPlain bool s = flag BadBool s
+readPlain i8 s = wordOf 1 (λ b. word signed 8 (little b)) s
+readPlain u8 s = wordOf 1 little s
+readPlain f32 s = wordOf 4 little s
+readPlain f64 s = wordOf 8 little s
+readPlain char s = counted (varint w64 s) (λ c n. charOf c n (drop n s))
+readPlain unit s = Took 0 0 0
+readPlain (int g w) s = onFirst (unzigzagged g) (varint w s)
+readPlain (fixed o g w) s = wordOf (size w) (λ b. word g (bits w) (little (inOrder o b))) s
 
 unfoldable pub known : ℕ → Item → Item
 known n (Took v b u) = pick (ltb v n) (Took v b u) (Refused Variant)
@@ -64,7 +64,7 @@ abbrev pub Head : Type 0
 Head = Kind → (n p : ℕ) → List ℕ → Item
 
 unfoldable pub head : Head
-head (plain l) n p s = readLeaf l s
+head (plain l) n p s = readPlain l s
 head (pooled k) n p s = counted (varint w64 s) (λ c u. contentOf k p c u (drop u s))
 head option n p s = flag BadOption s
 head sequence n p s = varint w64 s
@@ -94,15 +94,15 @@ pub record Run : Type 0 where
   pub ends : Outcome
 
 -- entries, and then a run
-unfoldable pub behind : List Entry → Run → Run
-behind es r = record { made = es ++ r .made; ends = r .ends }
+unfoldable pub runAfter : List Entry → Run → Run
+runAfter es r = record { made = es ++ r .made; ends = r .ends }
 
 unfoldable pub readNothing : Spot → Run
 readNothing x = record { made = []; ends = reached x }
 
 -- a refusal is handed up unchanged
 unfoldable pub readOn : List Entry → Outcome → (Spot → Run) → Run
-readOn es (reached x) g = behind es (g x)
+readOn es (reached x) g = runAfter es (g x)
 readOn es (refused e p) g = record { made = es; ends = refused e p }
 
 unfoldable pub readThen : (Spot → Run) → (Spot → Run) → Spot → Run
@@ -114,7 +114,7 @@ past n x = record { bytes = drop n (x .bytes); place = x .place + n }
 -- an item's entry, and then its children
 unfoldable pub enter : Item → (ℕ → Spot → Run) → Spot → Run
 enter (Refused e) next x = record { made = []; ends = refused e (x .place) }
-enter (Took a b n) next x = behind (record { first = a; second = b; place = x .place } ∷ []) (next a (past n x))
+enter (Took a b n) next x = runAfter (record { first = a; second = b; place = x .place } ∷ []) (next a (past n x))
 
 unfoldable pub readItem : Head → Kind → ℕ → (ℕ → Spot → Run) → Spot → Run
 readItem h k n next x = enter (h k n (x .place) (x .bytes)) next x
@@ -134,7 +134,7 @@ within room [] (reached x) = record { made = []; ends = reached x }
 within zero [] (refused e p) = record { made = []; ends = refused Room p }
 within (suc room) [] (refused e p) = record { made = []; ends = refused e p }
 within zero (e ∷ es) end = record { made = []; ends = refused Room (e .place) }
-within (suc room) (e ∷ es) end = behind (e ∷ []) (within room es end)
+within (suc room) (e ∷ es) end = runAfter (e ∷ []) (within room es end)
 
 unfoldable pub fit : ℕ → Run → Run
 fit room r = within room (r .made) (r .ends)

@@ -29,11 +29,11 @@ pub data Sign : Type 0 where
   deriving Discrete as Sign-discrete
 
 -- the items that have no children, and whose entry is a number
-pub data Leaf : Type 0 where
-  bool i8 u8 f32 f64 char unit : Leaf
-  int : Sign → Width → Leaf
-  fixed : Order → Sign → Width → Leaf
-  deriving Discrete as Leaf-discrete
+pub data Plain : Type 0 where
+  bool i8 u8 f32 f64 char unit : Plain
+  int : Sign → Width → Plain
+  fixed : Order → Sign → Width → Plain
+  deriving Discrete as Plain-discrete
 
 -- what an entry names in the pool: a text, which is UTF-8, or any bytes
 pub data Content : Type 0 where
@@ -41,13 +41,13 @@ pub data Content : Type 0 where
   deriving Discrete as Content-discrete
 
 pub data Kind : Type 0 where
-  plain : Leaf → Kind
+  plain : Plain → Kind
   pooled : Content → Kind
   option sequence map struct enum : Kind
   deriving Discrete as Kind-discrete
 
 unfoldable pub sameKind : Kind → Kind → Bool
-sameKind k l = decided (Kind-discrete (Leaf-discrete Sign-discrete Width-discrete Order-discrete) Content-discrete k l)
+sameKind k l = decided (Kind-discrete (Plain-discrete Sign-discrete Width-discrete Order-discrete) Content-discrete k l)
 
 -- a node: its kind and its children, in the table's order
 mutual

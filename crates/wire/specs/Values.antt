@@ -34,16 +34,16 @@ pub data Told : Type 0 where
   lacks : (front : List Tag) (first : Entry) (rest : List Entry) → Told
   short : (front : List Tag) → Told
 
-unfoldable pub ahead : List Tag → Told → Told
-ahead ts (kept front rest) = kept (ts ++ front) rest
-ahead ts (lacks front e rest) = lacks (ts ++ front) e rest
-ahead ts (short front) = short (ts ++ front)
+unfoldable pub toldAfter : List Tag → Told → Told
+toldAfter ts (kept front rest) = kept (ts ++ front) rest
+toldAfter ts (lacks front e rest) = lacks (ts ++ front) e rest
+toldAfter ts (short front) = short (ts ++ front)
 
 unfoldable pub tellNothing : List Entry → Told
 tellNothing es = kept [] es
 
 unfoldable pub tellOn : Told → (List Entry → Told) → Told
-tellOn (kept front rest) g = ahead front (g rest)
+tellOn (kept front rest) g = toldAfter front (g rest)
 tellOn (lacks front e rest) g = lacks front e rest
 tellOn (short front) g = short front
 
@@ -53,7 +53,7 @@ tellThen f g es = tellOn (f es) g
 unfoldable pub tellItem : Kind → ℕ → (ℕ → List Entry → Told) → List Entry → Told
 tellItem k n next [] = short []
 tellItem k n next (e ∷ es) =
-    given (isKnown (following k (e .first)) n) (λ _. ahead (record { kind = k; entry = e } ∷ []) (next (e .first) es)) (lacks [] e es)
+    given (isKnown (following k (e .first)) n) (λ _. toldAfter (record { kind = k; entry = e } ∷ []) (next (e .first) es)) (lacks [] e es)
 
 abbrev pub telling : Walk
 telling = record { From = List Entry; To = Told; nothing = tellNothing; then = tellThen; item = tellItem }

@@ -7,7 +7,7 @@ use Prim.Native.Nat.{ℕ, _+_}
 use lib.ListN.{length}
 use lib.Dec.{ltb, leb, eqb}
 use Rattle.wire.specs.Tests.{both}
-use Rattle.wire.specs.Shape.{bits, size, signed, unsigned, Leaf, bool, i8, u8, f32, f64, char, unit, int, fixed, Kind, plain, pooled, option, sequence, map, struct, enum, Shape}
+use Rattle.wire.specs.Shape.{bits, size, signed, unsigned, Plain, bool, i8, u8, f32, f64, char, unit, int, fixed, Kind, plain, pooled, option, sequence, map, struct, enum, Shape}
 use Rattle.wire.specs.Walk.{Walk, walk}
 use Rattle.wire.specs.Values.{Entry, part}
 use Rattle.wire.specs.Numbers.{shortest, zigzagged, isWord, littleBytes, inOrder}
@@ -29,20 +29,20 @@ unfoldable pub withCount : List ℕ → List ℕ
 withCount s = shortest (length s) ++ s
 
 -- the bytes of a leaf whose entry has the words a and b, where some value has them
-unfoldable pub leafBytes : Leaf → ℕ → ℕ → Option (List ℕ)
-leafBytes bool a b = single (leb a 1) b (a ∷ [])
-leafBytes i8 a b = single (isWord signed 8 a) b (littleBytes 1 a)
-leafBytes u8 a b = single (isWord unsigned 8 a) b (littleBytes 1 a)
-leafBytes f32 a b = single (isWord unsigned 32 a) b (littleBytes 4 a)
-leafBytes f64 a b = single (isWord unsigned 64 a) b (littleBytes 8 a)
-leafBytes char a b = single (isChar a) b (withCount (charBytes a))
-leafBytes unit a b = single (eqb a 0) b []
-leafBytes (int g w) a b = single (isWord g (bits w) a) b (shortest (zigzagged g a))
-leafBytes (fixed o g w) a b = single (isWord g (bits w) a) b (inOrder o (littleBytes (size w) a))
+unfoldable pub plainBytes : Plain → ℕ → ℕ → Option (List ℕ)
+plainBytes bool a b = single (leb a 1) b (a ∷ [])
+plainBytes i8 a b = single (isWord signed 8 a) b (littleBytes 1 a)
+plainBytes u8 a b = single (isWord unsigned 8 a) b (littleBytes 1 a)
+plainBytes f32 a b = single (isWord unsigned 32 a) b (littleBytes 4 a)
+plainBytes f64 a b = single (isWord unsigned 64 a) b (littleBytes 8 a)
+plainBytes char a b = single (isChar a) b (withCount (charBytes a))
+plainBytes unit a b = single (eqb a 0) b []
+plainBytes (int g w) a b = single (isWord g (bits w) a) b (shortest (zigzagged g a))
+plainBytes (fixed o g w) a b = single (isWord g (bits w) a) b (inOrder o (littleBytes (size w) a))
 
 -- the own bytes of an item with n children
 unfoldable pub headBytes : Kind → ℕ → List ℕ → ℕ → ℕ → Option (List ℕ)
-headBytes (plain l) n pool a b = leafBytes l a b
+headBytes (plain l) n pool a b = plainBytes l a b
 headBytes (pooled k) n pool a b = when (both (leb (a + b) (length pool)) (isContent k (part pool a b))) (withCount (part pool a b))
 headBytes option n pool a b = single (leb a 1) b (a ∷ [])
 headBytes sequence n pool a b = single (isWord unsigned 64 a) b (shortest a)
@@ -62,15 +62,15 @@ pub data Wrote : Type 0 where
   wrote : List ℕ → Left → Wrote
   misfit : ℕ → Wrote
 
-unfoldable pub after : List ℕ → Wrote → Wrote
-after s (wrote t x) = wrote (s ++ t) x
-after s (misfit i) = misfit i
+unfoldable pub wroteAfter : List ℕ → Wrote → Wrote
+wroteAfter s (wrote t x) = wrote (s ++ t) x
+wroteAfter s (misfit i) = misfit i
 
 unfoldable pub writeNothing : Left → Wrote
 writeNothing x = wrote [] x
 
 unfoldable pub writeOn : Wrote → (Left → Wrote) → Wrote
-writeOn (wrote s x) g = after s (g x)
+writeOn (wrote s x) g = wroteAfter s (g x)
 writeOn (misfit i) g = misfit i
 
 unfoldable pub writeThen : (Left → Wrote) → (Left → Wrote) → Left → Wrote
@@ -79,7 +79,7 @@ writeThen f g x = writeOn (f x) g
 -- an entry's bytes, and then its children's
 unfoldable pub spell : Option (List ℕ) → ℕ → (ℕ → Left → Wrote) → ℕ → List Entry → Wrote
 spell none a next i es = misfit i
-spell (some s) a next i es = after s (next a (record { at = i + 1; entries = es }))
+spell (some s) a next i es = wroteAfter s (next a (record { at = i + 1; entries = es }))
 
 unfoldable pub writeEntry : Kind → ℕ → List ℕ → (ℕ → Left → Wrote) → ℕ → List Entry → Wrote
 writeEntry k n pool next i [] = misfit i

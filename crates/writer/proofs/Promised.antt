@@ -20,18 +20,18 @@ use Rattle.wire.specs.declared.WriteAnswer.the-variants.{Done, Refused}
 use Rattle.wire.specs.Tests.{pick, given}
 use Rattle.wire.specs.Shape.{Shape}
 use Rattle.wire.specs.Table.{check, shapeOf}
-use Rattle.wire.specs.Writing.{Wrote, wrote, misfit, after, write}
+use Rattle.wire.specs.Writing.{Wrote, wrote, misfit, wroteAfter, write}
 use Rattle.wire.specs.Answers.{wordsPer, Form, form, noForm, formOf, formed, writeBy, writes, writeAnswer, outWith}
 use Rattle.output.specs.Bytes.{cap, Puts}
 use Rattle.output.proofs.Counting.{cap-above, cap-within}
-use Rattle.lists.specs.declared.Put.{Put}
-use Rattle.lists.specs.declared.Put.the-variants as put
-use Rattle.lists.specs.Steps.{entries, Sure, Going, GivesBy, Gives}
+use Rattle.write_list.specs.declared.Put.{Put}
+use Rattle.write_list.specs.declared.Put.the-variants as put
+use Rattle.write_list.specs.Steps.{entries, Sure, Going, GivesBy, Gives}
 use Rattle.writer.specs.declared.Few.{Few}
 use Rattle.writer.specs.declared.Few.the-variants as few
 use Rattle.writer.specs.Promise.{Writes, Tried, OneWriting}
 use Rattle.writer.specs.Promise as promise
-use Rattle.lists.proofs.Entries.{entries-none, entries-more}
+use Rattle.write_list.proofs.Entries.{entries-none, entries-more}
 
 writes-no : {f : Form} {e : Refusal} {p : ℕ} (out : List ℕ) → f ≡ noForm e p → Writes f out (Refused e p) out
 unfolding writeAnswer outWith
@@ -47,7 +47,7 @@ record AllPut (w : Wrote) (ws : List ℕ) (u : ℕ) (before : List ℕ) (at n : 
 
 module _ {w : Wrote} {ws : List ℕ} {u : ℕ} {before : List ℕ} {r : Put} {out : List ℕ} (g : Gives w ws u before r out) where
   all-put : {at n : ℕ} → r ≡ put.Done at n → AllPut w ws u before at n out
-  unfolding after
+  unfolding wroteAfter
   all-put {at} {n} q =
       let d : Going w (wrote [] (entries ws at)) u before n out = rw q at (g .holds) in
       record { bytes = d .bytes; is = rw append-nil at (d .is); puts = d .puts }
@@ -56,13 +56,13 @@ module _ {w : Wrote} {ws : List ℕ} {u : ℕ} {before : List ℕ} {r : Put} {ou
   not-put q = rw q at (g .holds)
 
 -- it was judged by putting it in front of some bytes
-module _ {w : Wrote} {ws before : List ℕ} {r : Put} {after : List ℕ} (out : List ℕ) (j : Gives w ws 0 before r after) where
+module _ {w : Wrote} {ws before : List ℕ} {r : Put} {wroteAfter : List ℕ} (out : List ℕ) (j : Gives w ws 0 before r wroteAfter) where
   pub judged-misfit : {i : ℕ} → r ≡ put.Misfit i → Writes (formed (length out) w) out (Refused Values i) out
   unfolding formed
   judged-misfit q = writes-no out (ap (formed (length out)) (not-put j q))
 
   module _ {at n : ℕ} (q : r ≡ put.Done at n) where
-    did : AllPut w ws 0 before at n after
+    did : AllPut w ws 0 before at n wroteAfter
     did = all-put j q
 
     pub judged-sure : Sure true w
@@ -99,13 +99,13 @@ module _ {w : Wrote} {ws before : List ℕ} {r : Put} {after : List ℕ} (out : 
               stored = e ∙ sets-eq (did .bytes) out 0 (omega (arith, exact)) ∙ ap (λ k. did .bytes ++ drop k out) (zero-add (length (did .bytes)));
             })
 
-        front : n ≤ length before → take n after ≡ did .bytes
+        front : n ≤ length before → take n wroteAfter ≡ did .bytes
         front h =
-            ap (λ k. take k after) exact
+            ap (λ k. take k wroteAfter) exact
             ∙ ap (take (length (did .bytes))) (did .puts .stored ∙ sets-eq (did .bytes) before 0 (omega (arith, exact)))
             ∙ take-append-seam (did .bytes) _
 
-        pub judged-short : n ≤ length before → {k : ℕ} {left : List ℕ} → Puts (take n after) 0 out k left → Writes (formed (length out) w) out (Done n) left
+        pub judged-short : n ≤ length before → {k : ℕ} {left : List ℕ} → Puts (take n wroteAfter) 0 out k left → Writes (formed (length out) w) out (Done n) left
         judged-short h p = stored (p .stored ∙ ap (sets out 0) (front h))
 
         put-whole : (p : Put) (left : List ℕ) → GivesBy w ws 0 out p left → left ≡ sets out 0 (did .bytes)

@@ -12,7 +12,7 @@ use Rattle.wire.specs.Answers.{Form, formed, writes, writeAnswer, outWith}
 use Rattle.laws.specs.Unique.{Unique}
 use Rattle.writer.specs.declared.Few.{Few}
 use Rattle.writer.specs.declared.Few.the-variants.{Put, Other}
-use Rattle.lists.specs.Steps.{entries}
+use Rattle.write_list.specs.Steps.{entries}
 
 -- the answer, and the output as it is left, are those of a form
 pub record Writes (f : Form) (out : List ℕ) (a : WriteAnswer) (left : List ℕ) : Type 0 where

@@ -1,9 +1,9 @@
 // Writing a value list by a table: one pass judges the list and measures its form, and a second one writes what was judged, but for a short form, which the first kept.
-use lists::Put;
 use wire::Checked;
 use wire::Layout;
 use wire::Refusal;
 use wire::WriteAnswer;
+use write_list::Put;
 ghost use mathlib.Core.Path.{_≡_};
 ghost use Prim.Native.Nat.{_%_};
 ghost use lib.ListN.{length};
@@ -12,7 +12,7 @@ ghost use Rattle.wire.specs.Table.{shapeOf};
 ghost use Rattle.wire.specs.Table.{check as checkOf};
 ghost use Rattle.wire.specs.Writing.{write as writeShape};
 ghost use Rattle.wire.specs.Answers.{formed, writes};
-ghost use Rattle.lists.specs.Steps.{entries};
+ghost use Rattle.write_list.specs.Steps.{entries};
 ghost use Rattle.writer.specs.Promise.{Writes, Tried};
 
 // So long is a form that the first pass keeps.
@@ -36,7 +36,7 @@ fn write_entries(table: &[u8], l: Layout, words: &[u64], pool: &[u8], out: &mut 
     ensures { λ r. ⌜ Writes (formed (length (now (out .entry))) (writeShape (shapeOf (now (table .entry)) l) (now (pool .entry)) (entries (now (words .entry)) 0))) (now (out .entry)) r (now (out .exit)) ⌝ }
 {
     let mut small: [u8; SHORT] = [0; SHORT];
-    let got = lists::put_list(table, l, words, pool, &mut small, false);
+    let got = write_list::put_list(table, l, words, pool, &mut small, false);
     match got {
         Put::Misfit { at } => WriteAnswer::Refused {
             why: Refusal::Values,
@@ -59,7 +59,7 @@ fn write_entries(table: &[u8], l: Layout, words: &[u64], pool: &[u8], out: &mut 
                 output::put_bytes(&small[..used], out, 0);
                 return WriteAnswer::Done { place: used };
             }
-            lists::put_list(table, l, words, pool, out, true);
+            write_list::put_list(table, l, words, pool, out, true);
             WriteAnswer::Done { place: used }
         }
     }
@@ -76,7 +76,7 @@ fn put_few(table: &[u8], l: Layout, words: &[u64], out: &mut [u8]) -> Few
         return Few::Other;
     }
     let mut small: [u8; SHORT] = [0; SHORT];
-    let front = lists::put_front(table, l, words, &mut small);
+    let front = write_list::put_front(table, l, words, &mut small);
     if front.left == 0 {
         if words.len() / 2 <= front.at {
             let used = front.used;

@@ -14,11 +14,11 @@ use Rattle.table.specs.Parts.{Falls}
 use Rattle.table.proofs.Stretches.{falls-first, falls-next, flat-falls}
 use Rattle.table.proofs.kind_at.Reads as kind-at-reads
 use Rattle.table.proofs.u16_at.Reads as u16-at-reads
-use Rattle.items.specs.Lay.{lay}
-use Rattle.items.specs.Steps.{spot, readRow, readRounds}
-use Rattle.items.proofs.Entering.{enters-full}
-use Rattle.items.proofs.enter.Reads as enter-reads
-use Rattle.items.proofs.read_leaf.Reads as read-leaf-reads
+use Rattle.read_item.specs.Lay.{lay}
+use Rattle.read_item.specs.Steps.{spot, readRow, readRounds}
+use Rattle.read_item.proofs.Entering.{enters-full}
+use Rattle.read_item.proofs.enter.Reads as enter-reads
+use Rattle.read_item.proofs.read_leaf.Reads as read-leaf-reads
 use Rattle.reader.proofs.Laying.{gives-refused}
 use Rattle.reader.proofs.Rounds.{flat-reads, begun-full, begun-at}
 use Rattle.reader.proofs.Turns.{Went, item-goes, item-refused, item-end, item-on, leaf-gives, turn-refused, turned, row-end, row-first, rounds-end, rounds-first, node-steady, row-steady}

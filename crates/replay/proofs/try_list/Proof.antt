@@ -3,7 +3,7 @@
 use Prim.Native.Nat.{_+_, _≤_}
 use native.Mathlib.Omega.{arith}
 use lib.ListN.{length, length-drop}
-use Rattle.records.proofs.Fields.{tail}
+use Rattle.recorded.proofs.Fields.{tail}
 use Rattle.replay.proofs.try_list.Statement.{statement}
 use Rattle.replay.proofs.try_list.Tie as tie
 

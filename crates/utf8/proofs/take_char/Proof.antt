@@ -5,7 +5,7 @@ use native.Mathlib.Omega.{arith}
 use lib.ListN.{drop}
 use denote.Ref.{now}
 use borrow.Author.Needs.{needs}
-use Rattle.wire.specs.Reading.{charOf, readLeaf}
+use Rattle.wire.specs.Reading.{charOf, readPlain}
 use Rattle.laws.proofs.Parts.{tail}
 use Rattle.laws.proofs.Items.{no-count, behind-count}
 use Rattle.utf8.proofs.Contents.{as-u64, within}
@@ -22,7 +22,7 @@ enum-told : tie.Need-enum-told
 enum-told c = search needs
 
 returns : tie.Need-returns
-unfolding readLeaf
+unfolding readPlain
 returns c =
     let a = c .before .before .before .before .args in no-count (λ k n. charOf k n (drop n (now (a .part)))) (as-u64 _ (c .before .before .take .ensures)) (c .enum-told .given .1)
 
@@ -39,7 +39,7 @@ char-of-requires : tie.Need-char-of-requires
 char-of-requires c κs = search needs
 
 returns-2 : tie.Need-returns-2
-unfolding readLeaf
+unfolding readPlain
 returns-2 c =
     let a = c .before .before .before .before .before .before .before .args in
     rw tail at (c .char-of .ensures) ∙ behind-count (λ k n. charOf k n (drop n (now (a .part)))) (as-u64 _ (c .before .before .before .before .before .take .ensures)) (c .before .before .before .got .given .1)

@@ -5,7 +5,7 @@ use native.Mathlib.Omega.{arith}
 use lib.Seq.{length-take-le}
 use borrow.Author.Needs.{needs}
 use Rattle.writer.specs.Promise.{put, other}
-use Rattle.lists.proofs.Going.{few-bytes}
+use Rattle.write_list.proofs.Going.{few-bytes}
 use Rattle.writer.proofs.Promised.{judged-short}
 use Rattle.writer.proofs.put_few.Statement.{statement}
 use Rattle.writer.proofs.put_few.Tie as tie

@@ -5,7 +5,7 @@ use native.Mathlib.Omega.{arith}
 use lib.Seq.{length-take-le}
 use borrow.Author.Needs.{needs}
 use Rattle.laws.proofs.Splits.{not-both}
-use Rattle.lists.proofs.Going.{few-bytes}
+use Rattle.write_list.proofs.Going.{few-bytes}
 use Rattle.writer.proofs.Promised.{judged-misfit, judged-sure, judged-more, judged-full, judged-short, judged-done}
 use Rattle.writer.proofs.write_entries.Statement.{statement}
 use Rattle.writer.proofs.write_entries.Tie as tie

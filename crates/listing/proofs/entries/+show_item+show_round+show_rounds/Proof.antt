@@ -19,8 +19,8 @@ use Rattle.listing.proofs.names.say_kind.Reads as say-kind-reads
 use Rattle.listing.proofs.names.say_position.Reads as say-position-reads
 use Rattle.listing.proofs.parts.child.Reads as child-reads
 use Rattle.listing.proofs.value.say_value.Reads as say-value-reads
-use Rattle.words.proofs.indent.Reads as indent-reads
-use Rattle.words.proofs.say.Reads as say-reads
+use Rattle.say.proofs.indent.Reads as indent-reads
+use Rattle.say.proofs.say.Reads as say-reads
 use Rattle.table.proofs.child_count.Reads as child-count-reads
 use Rattle.table.proofs.kind_at.Reads as kind-at-reads
 use Rattle.listing.proofs.entries.+show_item+show_round+show_rounds.{statement}

@@ -17,8 +17,8 @@ use Rattle.listing.proofs.names.say_child.Reads as say-child-reads
 use Rattle.listing.proofs.parts.child.Reads as child-reads
 use Rattle.listing.proofs.tree.is_new.Reads as is-new-reads
 use Rattle.listing.proofs.tree.say_node.Reads as say-node-reads
-use Rattle.words.proofs.indent.Reads as indent-reads
-use Rattle.words.proofs.say.Reads as say-reads
+use Rattle.say.proofs.indent.Reads as indent-reads
+use Rattle.say.proofs.say.Reads as say-reads
 use Rattle.table.proofs.child_count.Reads as child-count-reads
 use Rattle.table.proofs.kind_at.Reads as kind-at-reads
 use Rattle.listing.proofs.tree.+show_children+show_node.{statement}

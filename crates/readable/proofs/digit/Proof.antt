@@ -1,0 +1,26 @@
+-- `readable::digit` meets its contract.
+-- Assumes nothing.
+use borrow.Author.Tests.{lt-ltb, le-ltb}
+use Rattle.wire.specs.Tests.{pick}
+use Rattle.readable.specs.Spelling.{digitOf}
+use native.Mathlib.Omega.{arith}
+use borrow.Author.Needs.{needs}
+use Rattle.readable.proofs.digit.Statement.{statement}
+use Rattle.readable.proofs.digit.Tie as tie
+
+add-result : tie.Need-add-result
+add-result c = search needs
+
+returns : tie.Need-returns
+unfolding digitOf pick
+returns c = rw (lt-ltb _ 10 (c .if1 .taken))
+
+add-result-2 : tie.Need-add-result-2
+add-result-2 c = search needs
+
+returns-2 : tie.Need-returns-2
+unfolding digitOf pick
+returns-2 c = rw (le-ltb _ 10 (c .if1 .left)) (omega arith)
+
+pub digit-spec : {M : Type 1} → statement M
+digit-spec = tie.close (tie.spec add-result returns add-result-2 returns-2)

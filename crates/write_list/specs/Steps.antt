@@ -1,0 +1,95 @@
+-- Writing as the code goes through it: nodes whose numbers stand one after the other in the table, gone through so often.
+-- Assumes nothing.
+use mathlib.Core.Path.{_≡_}
+use mathlib.Core.Bool.{Bool, true, false}
+use mathlib.Core.List.{List, []}
+use Prim.Native.Nat.{ℕ, _+_, _*_, _/_, _<_}
+use lib.ListN.{length, drop}
+use Rattle.wire.specs.declared.Layout.{Layout}
+use Rattle.wire.specs.Shape.{Kind, struct}
+use Rattle.wire.specs.Walk.{times}
+use Rattle.wire.specs.Table.{shapesAt, shapeOf}
+use Rattle.wire.specs.Writing.{Left, Wrote, wrote, misfit, wroteAfter, writeNothing, writeItem, writing, write}
+use Rattle.wire.specs.Answers.{wordsPer, entriesOf}
+use Rattle.laws.specs.Steps.{row}
+use Rattle.laws.specs.Tables.{nodeShape}
+use Rattle.table.specs.declared.Stretch.{Stretch}
+use Rattle.table.specs.Parts.{Falls, under}
+use Rattle.output.specs.Bytes.{Puts}
+use Rattle.write_list.specs.declared.Put.{Put}
+use Rattle.write_list.specs.declared.Put.the-variants.{Done, Misfit}
+use Rattle.write_list.specs.declared.Entered.{Entered}
+use Rattle.write_list.specs.declared.Entered.the-variants as entered
+use Rattle.write_list.specs.declared.Ahead.{Ahead}
+use Rattle.write_list.specs.declared.Begun.{Begun}
+use Rattle.write_list.specs.declared.Begun.the-variants as begun
+
+-- a value list's entries from the i-th on
+unfoldable pub entries : List ℕ → ℕ → Left
+entries ws i = record { at = i; entries = entriesOf (drop (wordsPer * i) ws) }
+
+-- a leaf, one node, and nodes one after the other
+unfoldable pub writeLeaf : Kind → (pool : List ℕ) → Left → Wrote
+writeLeaf k pool = writeItem pool k 0 (λ a. writeNothing)
+
+unfoldable pub writeNode : List ℕ → Layout → (pool : List ℕ) → ℕ → Left → Wrote
+writeNode s l pool i = write (nodeShape s l i) pool
+
+unfoldable pub writeRow : List ℕ → Layout → (pool : List ℕ) → (from n : ℕ) → Left → Wrote
+writeRow s l pool from n = row (writing pool) (shapesAt (nodeShape s l) s from n)
+
+-- a step as it stands, or as that of a struct's n fields
+abbrev pub headed : Bool → (pool : List ℕ) → (n : ℕ) → (Left → Wrote) → Left → Wrote
+headed h pool n f = under (writing pool) h n f
+
+-- such a row so many times over
+unfoldable pub writeRounds : List ℕ → Layout → (pool : List ℕ) → (rounds : ℕ) (h : Bool) (from n : ℕ) → Left → Wrote
+writeRounds s l pool c h from n = times (writing pool) c (headed h pool n (writeRow s l pool from n))
+
+-- a list that was judged has no misfit
+pub record Sure (judged : Bool) (w : Wrote) : Type 0 where
+  pub never : judged ≡ true → (i : ℕ) → w ≡ misfit i → ⊥
+
+-- bytes were put behind the first u, there are n now, and `rest` is what is left of the writing w
+pub record Going (w rest : Wrote) (u : ℕ) (before : List ℕ) (n : ℕ) (out : List ℕ) : Type 0 where
+  pub bytes : List ℕ
+  pub is : w ≡ wroteAfter bytes rest
+  pub puts : Puts bytes u before n out
+
+-- the whole writing was put, and the entries from `at` on are left; or there is a misfit
+abbrev pub GivesBy : Wrote → List ℕ → ℕ → List ℕ → Put → List ℕ → Type 0
+GivesBy w ws u before (Done at n) out = Going w (wrote [] (entries ws at)) u before n out
+GivesBy w ws u before (Misfit i) out = w ≡ misfit i
+
+pub record Gives (w : Wrote) (ws : List ℕ) (u : ℕ) (before : List ℕ) (r : Put) (out : List ℕ) : Type 0 where
+  pub holds : GivesBy w ws u before r out
+
+-- The entry `at`, of the node i, was entered: its own bytes were put, the nodes that follow fall, and they are what is left.
+pub record Goes (w : Wrote) (s : List ℕ) (l : Layout) (pool : List ℕ) (i : ℕ) (ws : List ℕ) (at u : ℕ) (before : List ℕ) (to : Stretch) (n : ℕ) (out : List ℕ) : Type 0 where
+  pub more : at < length ws / wordsPer
+  pub falls : Falls s (to .from) (to .width) i
+  pub going : Going w (writeRounds s l pool (to .rounds) false (to .from) (to .width) (entries ws (at + 1))) u before n out
+
+abbrev pub EntersBy : Wrote → List ℕ → Layout → (pool : List ℕ) → (i : ℕ) → (ws : List ℕ) → (at u : ℕ) → (before : List ℕ) → Entered → List ℕ → Type 0
+EntersBy w s l pool i ws at u before (entered.On to n) out = Goes w s l pool i ws at u before to n out
+EntersBy w s l pool i ws at u before entered.Misfit out = w ≡ misfit at
+
+pub record Enters (w : Wrote) (s : List ℕ) (l : Layout) (pool : List ℕ) (i : ℕ) (ws : List ℕ) (at u : ℕ) (before : List ℕ) (r : Entered) (out : List ℕ) : Type 0 where
+  pub holds : EntersBy w s l pool i ws at u before r out
+
+-- a round begins behind the entry that heads it, or that entry is a misfit
+abbrev pub BeginsBy : Bool → List ℕ → ℕ → Begun → (pool : List ℕ) → (n : ℕ) → (Left → Wrote) → Type 0
+BeginsBy h ws at (begun.At b) pool n f = headed h pool n f (entries ws at) ≡ f (entries ws b)
+BeginsBy h ws at begun.Misfit pool n f = headed h pool n f (entries ws at) ≡ misfit at
+
+pub record Begins (h : Bool) (ws : List ℕ) (at : ℕ) (r : Begun) : Type 0 where
+  pub holds : (pool : List ℕ) (n : ℕ) (f : Left → Wrote) → BeginsBy h ws at r pool n f
+
+-- with any pool, a row was put up to the numbers that are left, which fall
+pub record Leads (s : List ℕ) (l : Layout) (from n : ℕ) (ws : List ℕ) (at : ℕ) (before : List ℕ) (r : Ahead) (out : List ℕ) : Type 0 where
+  pub falls : Falls s (r .child) (r .left) (l .nodes)
+  pub going : (pool : List ℕ) → Going (writeRow s l pool from n (entries ws at)) (writeRow s l pool (r .child) (r .left) (entries ws (r .at))) 0 before (r .used) out
+
+-- where none are left, the whole list was put
+pub record Whole (s : List ℕ) (l : Layout) (ws before : List ℕ) (r : Ahead) (out : List ℕ) : Type 0 where
+  pub all : r .left ≡ 0 → (pool : List ℕ) → Gives (write (shapeOf s l) pool (entries ws 0)) ws 0 before (Done (r .at) (r .used)) out

@@ -1,0 +1,423 @@
+// A value list gone through by a table: its entries are judged, and their bytes put behind one another.
+use table::Stretch;
+use wire::Layout;
+ghost use mathlib.Core.Path.{_≡_};
+ghost use Prim.Native.Nat.{_/_, _<_, _≤_};
+ghost use lib.ListN.{length};
+ghost use Rattle.wire.specs.declared.Checked.the-variants.{Good};
+ghost use Rattle.wire.specs.Table.{kindOf, nodeAt, recordOf, shapeOf};
+ghost use Rattle.wire.specs.Table.{check as checkOf};
+ghost use Rattle.wire.specs.Writing.{write as writeShape};
+ghost use Rattle.laws.specs.Tables.{GoodTable};
+ghost use Rattle.table.specs.Parts.{Falls};
+ghost use Rattle.write_item.specs.Own.{IsLeaf};
+ghost use Rattle.write_list.specs.Steps.{entries, writeLeaf, writeNode, writeRow, writeRounds, Sure, Gives, Enters, Begins, Leads, Whole};
+
+// How far a list is written: the next entry and how many bytes there are now; or the entry that does not fit.
+pub enum Put {
+    Done { at: usize, used: usize },
+    Misfit { at: usize },
+}
+
+// What an entry leaves to do: the stretch that follows it, and how many bytes there are now; or that no value has it.
+enum Entered {
+    On { to: Stretch, used: usize },
+    Misfit,
+}
+
+// How far integers in front of a row were put: the next entry, how many bytes there are now, and where the numbers that are left
+// stand, and how many.
+pub struct Ahead {
+    pub at: usize,
+    pub used: usize,
+    pub child: usize,
+    pub left: usize,
+}
+
+// Where the nodes of a round begin; or that no value has the entry that heads it.
+enum Begun {
+    At { at: usize },
+    Misfit,
+}
+
+// ---- an entry
+
+// A leaf's, which nothing follows.
+fn leaf_item(
+    number: u8,
+    words: &[u64],
+    at: usize,
+    pool: &[u8],
+    out: &mut [u8],
+    used: usize,
+    judged: bool,
+) -> Put
+    requires { ⌜ IsLeaf number ⌝ }
+    requires { ⌜ at < length (now words) / 2 ⌝ }
+    requires { ⌜ Sure judged (writeLeaf (kindOf number) (now pool) (entries (now words) at)) ⌝ }
+    ensures { λ r. ⌜ Gives (writeLeaf (kindOf number) (now (pool .entry)) (entries (now (words .entry)) at)) (now (words .entry)) used (now (out .entry)) r (now (out .exit)) ⌝ }
+{
+    let i = 2 * at;
+    let first = words[i];
+    let second = words[i + 1];
+    let ok = write_item::fits_leaf(number, first, second, pool, judged);
+    if ok {
+        let more = write_item::put_leaf(number, first, second, pool, out, used);
+        let next = at + 1;
+        return Put::Done {
+            at: next,
+            used: more,
+        };
+    }
+    Put::Misfit { at }
+}
+
+// That of an item with children: its own bytes, and what follows.
+fn enter(
+    table: &[u8],
+    l: Layout,
+    node: usize,
+    number: u8,
+    words: &[u64],
+    at: usize,
+    pool: &[u8],
+    out: &mut [u8],
+    used: usize,
+    judged: bool,
+) -> Entered
+    requires { ⌜ GoodTable (now table) l ⌝ }
+    requires { ⌜ node < l .nodes ⌝ }
+    requires { ⌜ number ≡ nodeAt (now table) (recordOf l node) .number ⌝ }
+    requires { ⌜ (15 ≤ number) × (number ≤ 19) ⌝ }
+    requires { ⌜ at < length (now words) / 2 ⌝ }
+    requires { ⌜ Sure judged (writeNode (now table) l (now pool) node (entries (now words) at)) ⌝ }
+    ensures { λ r. ⌜ Enters (writeNode (now (table .entry)) l (now (pool .entry)) node (entries (now (words .entry)) at)) (now (table .entry)) l (now (pool .entry)) node (now (words .entry)) at used (now (out .entry)) r (now (out .exit)) ⌝ }
+{
+    let i = 2 * at;
+    let first = words[i];
+    let second = words[i + 1];
+    let width = table::child_count(table, l, node);
+    let ok = write_item::fits_inner(number, width, first, second, judged);
+    if ok {
+        let more = write_item::put_inner(number, first, out, used);
+        let from = table::first_child(table, l, node);
+        let to = table::follow(number, first, from, width);
+        return Entered::On { to, used: more };
+    }
+    Entered::Misfit
+}
+
+// ---- rounds
+
+// A struct's entry has no bytes.
+fn begin(headed: bool, words: &[u64], at: usize) -> Begun
+    ensures { λ r. ⌜ Begins headed (now (words .entry)) at r ⌝ }
+{
+    if headed {
+        if words.len() / 2 <= at {
+            return Begun::Misfit;
+        }
+        let i = 2 * at;
+        let first = words[i];
+        let second = words[i + 1];
+        if first != 0 {
+            return Begun::Misfit;
+        }
+        if second != 0 {
+            return Begun::Misfit;
+        }
+        let next = at + 1;
+        return Begun::At { at: next };
+    }
+    Begun::At { at }
+}
+
+// ---- the cycle: an item, one with children, the rounds of the stretch that follows it, one round
+
+fn put_item(
+    table: &[u8],
+    l: Layout,
+    node: usize,
+    words: &[u64],
+    at: usize,
+    pool: &[u8],
+    out: &mut [u8],
+    used: usize,
+    judged: bool,
+) -> Put
+    requires { ⌜ GoodTable (now table) l ⌝ }
+    requires { ⌜ node < l .nodes ⌝ }
+    requires { ⌜ Sure judged (writeNode (now table) l (now pool) node (entries (now words) at)) ⌝ }
+    ensures { λ r. ⌜ Gives (writeNode (now (table .entry)) l (now (pool .entry)) node (entries (now (words .entry)) at)) (now (words .entry)) used (now (out .entry)) r (now (out .exit)) ⌝ }
+{
+    if words.len() / 2 <= at {
+        return Put::Misfit { at };
+    }
+    let number = table::kind_at(table, l, node);
+    match number {
+        15..=19 => {
+            let got = inner_item(table, l, node, number, words, at, pool, out, used, judged);
+            // Made anew, so that a leaf's answer does not go through memory with this one.
+            let Put::Done {
+                at: next,
+                used: more,
+            } = got
+            else {
+                return got;
+            };
+            Put::Done {
+                at: next,
+                used: more,
+            }
+        }
+        _ => leaf_item(number, words, at, pool, out, used, judged),
+    }
+}
+
+// The call of the cycle stands here and not in `put_item`, where each leaf would pay for copies of what it is lent.
+fn inner_item(
+    table: &[u8],
+    l: Layout,
+    node: usize,
+    number: u8,
+    words: &[u64],
+    at: usize,
+    pool: &[u8],
+    out: &mut [u8],
+    used: usize,
+    judged: bool,
+) -> Put
+    requires { ⌜ GoodTable (now table) l ⌝ }
+    requires { ⌜ node < l .nodes ⌝ }
+    requires { ⌜ number ≡ nodeAt (now table) (recordOf l node) .number ⌝ }
+    requires { ⌜ (15 ≤ number) × (number ≤ 19) ⌝ }
+    requires { ⌜ at < length (now words) / 2 ⌝ }
+    requires { ⌜ Sure judged (writeNode (now table) l (now pool) node (entries (now words) at)) ⌝ }
+    ensures { λ r. ⌜ Gives (writeNode (now (table .entry)) l (now (pool .entry)) node (entries (now (words .entry)) at)) (now (words .entry)) used (now (out .entry)) r (now (out .exit)) ⌝ }
+{
+    let entered = enter(table, l, node, number, words, at, pool, out, used, judged);
+    match entered {
+        Entered::Misfit => Put::Misfit { at },
+        Entered::On { to, used: more } => {
+            let next = at + 1;
+            if to.rounds == 0 {
+                return Put::Done {
+                    at: next,
+                    used: more,
+                };
+            }
+            let way = table::flat(table, l, node, to.from, to.width);
+            put_rounds(
+                table,
+                l,
+                node,
+                to.rounds,
+                way.headed,
+                way.from,
+                way.width,
+                words,
+                next,
+                pool,
+                out,
+                more,
+                judged,
+            )
+        }
+    }
+}
+
+fn put_rounds(
+    table: &[u8],
+    l: Layout,
+    node: usize,
+    rounds: u64,
+    headed: bool,
+    from: usize,
+    width: usize,
+    words: &[u64],
+    at: usize,
+    pool: &[u8],
+    out: &mut [u8],
+    used: usize,
+    judged: bool,
+) -> Put
+    requires { ⌜ GoodTable (now table) l ⌝ }
+    requires { ⌜ node ≤ l .nodes ⌝ }
+    requires { ⌜ Falls (now table) from width node ⌝ }
+    requires { ⌜ Sure judged (writeRounds (now table) l (now pool) rounds headed from width (entries (now words) at)) ⌝ }
+    ensures { λ r. ⌜ Gives (writeRounds (now (table .entry)) l (now (pool .entry)) rounds headed from width (entries (now (words .entry)) at)) (now (words .entry)) used (now (out .entry)) r (now (out .exit)) ⌝ }
+{
+    let mut i = at;
+    let mut n = used;
+    let mut left = rounds;
+    while 0 < left {
+        let begun = begin(headed, words, i);
+        let Begun::At { at: start } = begun else {
+            return Put::Misfit { at: i };
+        };
+        let got = put_stretch(
+            table,
+            l,
+            node,
+            from,
+            width,
+            words,
+            start,
+            pool,
+            out,
+            n,
+            judged,
+        );
+        let Put::Done {
+            at: next,
+            used: more,
+        } = got
+        else {
+            return got;
+        };
+        i = next;
+        n = more;
+        left = left - 1;
+    }
+    Put::Done { at: i, used: n }
+}
+
+fn put_stretch(
+    table: &[u8],
+    l: Layout,
+    node: usize,
+    from: usize,
+    width: usize,
+    words: &[u64],
+    at: usize,
+    pool: &[u8],
+    out: &mut [u8],
+    used: usize,
+    judged: bool,
+) -> Put
+    requires { ⌜ GoodTable (now table) l ⌝ }
+    requires { ⌜ node ≤ l .nodes ⌝ }
+    requires { ⌜ Falls (now table) from width node ⌝ }
+    requires { ⌜ Sure judged (writeRow (now table) l (now pool) from width (entries (now words) at)) ⌝ }
+    ensures { λ r. ⌜ Gives (writeRow (now (table .entry)) l (now (pool .entry)) from width (entries (now (words .entry)) at)) (now (words .entry)) used (now (out .entry)) r (now (out .exit)) ⌝ }
+{
+    let mut i = at;
+    let mut n = used;
+    let mut child = from;
+    let mut left = width;
+    while 0 < left {
+        let c = table::u16_at(table, child);
+        let got = put_item(table, l, c, words, i, pool, out, n, judged);
+        let Put::Done {
+            at: next,
+            used: more,
+        } = got
+        else {
+            return got;
+        };
+        i = next;
+        n = more;
+        child = child + 2;
+        left = left - 1;
+    }
+    Put::Done { at: i, used: n }
+}
+
+// ---- the whole list
+
+// The whole list, from the root, whose number stands in the trailer.
+pub fn put_list(
+    table: &[u8],
+    l: Layout,
+    words: &[u64],
+    pool: &[u8],
+    out: &mut [u8],
+    judged: bool,
+) -> Put
+    requires { ⌜ checkOf (now table) ≡ Good l ⌝ }
+    requires { ⌜ Sure judged (writeShape (shapeOf (now table) l) (now pool) (entries (now words) 0)) ⌝ }
+    ensures { λ r. ⌜ Gives (writeShape (shapeOf (now (table .entry)) l) (now (pool .entry)) (entries (now (words .entry)) 0)) (now (words .entry)) 0 (now (out .entry)) r (now (out .exit)) ⌝ }
+{
+    let from = table::root_at(table);
+    let way = table::flat(table, l, l.nodes, from, 1);
+    put_rounds(
+        table,
+        l,
+        l.nodes,
+        1,
+        way.headed,
+        way.from,
+        way.width,
+        words,
+        0,
+        pool,
+        out,
+        0,
+        judged,
+    )
+}
+
+// ---- integers in front, which need no cycle
+
+// The integers in front of a row, up to an entry that no value has or one that might not have its places.
+fn put_ints(
+    table: &[u8],
+    l: Layout,
+    from: usize,
+    width: usize,
+    words: &[u64],
+    at: usize,
+    out: &mut [u8],
+) -> Ahead
+    requires { ⌜ GoodTable (now table) l ⌝ }
+    requires { ⌜ Falls (now table) from width (l .nodes) ⌝ }
+    ensures { λ r. ⌜ Leads (now (table .entry)) l from width (now (words .entry)) at (now (out .entry)) r (now (out .exit)) ⌝ }
+{
+    let mut i = at;
+    let mut n: usize = 0;
+    let mut field = from;
+    let mut left = width;
+    while 0 < left {
+        let c = table::u16_at(table, field);
+        let number = table::kind_at(table, l, c);
+        let room = output::places(out.len(), n, varint::U64::MOST);
+        if !write_item::is_ready(number, words, i, room) {
+            return Ahead {
+                at: i,
+                used: n,
+                child: field,
+                left,
+            };
+        }
+        let first = words[2 * i];
+        n = write_item::put_ready(number, first, out, n);
+        i = i + 1;
+        field = field + 2;
+        left = left - 1;
+    }
+    Ahead {
+        at: i,
+        used: n,
+        child: field,
+        left,
+    }
+}
+
+// The integers in front of the whole list. None are left if it has nothing else.
+pub fn put_front(table: &[u8], l: Layout, words: &[u64], out: &mut [u8]) -> Ahead
+    requires { ⌜ checkOf (now table) ≡ Good l ⌝ }
+    ensures { λ r. ⌜ Whole (now (table .entry)) l (now (words .entry)) (now (out .entry)) r (now (out .exit)) ⌝ }
+{
+    let from = table::root_at(table);
+    let way = table::flat(table, l, l.nodes, from, 1);
+    let begun = begin(way.headed, words, 0);
+    let Begun::At { at: start } = begun else {
+        return Ahead {
+            at: 0,
+            used: 0,
+            child: from,
+            left: 1,
+        };
+    };
+    put_ints(table, l, way.from, way.width, words, start, out)
+}

@@ -5,8 +5,7 @@ use mathlib.Core.Bool.{true, false}
 use mathlib.Core.List.{List}
 use Prim.Native.Nat.{ℕ, _+_, _-_, _<_, _≤_, _^_}
 use native.Mathlib.Omega.{arith}
-use lib.ListN.{length, take, drop, length-drop, drop-of-length-le}
-use lib.Seq.{drop-length}
+use lib.ListN.{length, take, drop, length-drop}
 use borrow.Author.Tests.{lt-ltb, le-ltb, le-leb, lt-leb}
 use Rattle.wire.specs.declared.Refusal.the-variants.{End, Record}
 use Rattle.wire.specs.declared.Item.{Item}
@@ -76,8 +75,3 @@ module _ (k p : ℕ) (message : List ℕ) where
             go : (i : Item) → Fits (drop p message) i → Took a b n ≡ i → p + n < 2 ^ 64
             go (Took c d u) (fits l) same = let v : n ≡ u = cc in omega (arith, length-drop p message)
             go (Refused w) f same = let z : _≡_ {A = ℕ} 0 1 = cc in absurd (omega arith)
-
--- ---- the rest
-
-pub no-tail : (s : List ℕ) (p : ℕ) → length s < p → take (length s - length s) (drop (length s) s) ≡ drop p s
-no-tail s p h = tail s (length s) ∙ drop-length s ∙ sym (drop-of-length-le s {i = p} (omega arith))

@@ -2,10 +2,10 @@
 -- Assumes nothing.
 use mathlib.Core.Path.{_≡_, refl, sym, ap, ap₂, _∙_}
 use mathlib.Core.List.{List, [], _∷_}
-use Prim.Native.Nat.{ℕ, zero, suc, _+_, _-_, _<_, _≤_}
+use Prim.Native.Nat.{ℕ, zero, suc, _+_, _-_, _≤_}
 use native.Mathlib.Nat.{sub-zero, zero-add}
 use native.Mathlib.Omega.{arith}
-use lib.ListN.{length, take, drop, drop-of-length-le}
+use lib.ListN.{length, drop}
 use lib.Seq.{sets, sets-eq}
 use Rattle.wire.specs.declared.Refusal.{Refusal}
 use Rattle.wire.specs.declared.Layout.{Layout}
@@ -21,7 +21,6 @@ use Rattle.laws.specs.Bounds.{Stays, reaches, refuses}
 use Rattle.laws.specs.Tables.{nodeShape}
 use Rattle.laws.proofs.Bounds.{read-stays}
 use Rattle.laws.proofs.Children.{row-once}
-use Rattle.laws.proofs.Parts.{tail}
 use Rattle.laws.proofs.Places.{length-words}
 use Rattle.laws.proofs.Runs.{then-nothing, fit-reached}
 use Rattle.laws.proofs.Tables.{good-table}
@@ -77,13 +76,9 @@ module _ (table message store : List ℕ) where
 -- ---- the rest
 
 module _ (message : List ℕ) (a : ReadAnswer) where
-  pub rest-done : {p n : ℕ} → a ≡ Done p n → take (length message - p) (drop p message) ≡ restOf message a
+  pub rest-done : {p n : ℕ} → a ≡ Done p n → {r : List ℕ} → r ≡ drop p message → r ≡ restOf message a
   unfolding restOf
-  rest-done {p} e = rw e (tail message p)
-
-  pub rest-beyond : {p n : ℕ} → a ≡ Done p n → length message < p → [] ≡ restOf message a
-  unfolding restOf
-  rest-beyond {p} e h = rw (e, drop-of-length-le message {i = p} (omega arith))
+  rest-done e h = rw e h
 
   pub rest-refused : {e : Refusal} {p n : ℕ} → a ≡ Refused e p n → [] ≡ restOf message a
   unfolding restOf

@@ -256,13 +256,7 @@ pub fn rest<'a>(message: &'a [u8], answer: ReadAnswer) -> &'a [u8]
     ensures { λ r. ⌜ now r ≡ restOf (now (message .entry)) answer ⌝ }
 {
     match answer {
-        ReadAnswer::Done { place, count: _ } => {
-            if place <= message.len() {
-                &message[place..]
-            } else {
-                &message[0..0]
-            }
-        }
+        ReadAnswer::Done { place, count: _ } => { tail::from(message, place) }
         ReadAnswer::Refused {
             why: _,
             place: _,

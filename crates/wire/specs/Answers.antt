@@ -46,6 +46,16 @@ refusalNumber Room = 10
 refusalNumber Values = 11
 refusalNumber Full = 12
 
+-- which table is refused: 0 old, 1 new
+abbrev pub sideNumber : Side → ℕ
+sideNumber Old = 0
+sideNumber New = 1
+
+-- 1 for yes, 0 for no
+abbrev pub yesNumber : Bool → ℕ
+yesNumber true = 1
+yesNumber false = 0
+
 abbrev pub feedNumber : FeedAnswer → ℕ
 feedNumber Consumed = 20
 feedNumber OverFull = 21

@@ -22,7 +22,7 @@ use Rattle.laws.specs.Steps.{row, Law, Appending}
 use Rattle.laws.specs.Bounds.{start, Stays, reaches}
 use Rattle.laws.proofs.Walks.{walk-law, appends-law, matches-refl}
 use Rattle.laws.proofs.Known.{head-known}
-use Rattle.laws.proofs.Bounds.{read-stays, row-stays}
+use Rattle.laws.proofs.Bounds.{head-sound, read-stays, row-stays}
 use Rattle.laws.proofs.Runs.{then-nothing}
 use Rattle.promises.specs.OldNew.{entries, seen, OldReads, OwnTold, MatchingWhole}
 use Rattle.promises.proofs.Told.{entries-append, told-nothing}
@@ -186,7 +186,7 @@ part-ahead ts a (Part.lacking us c) = Part.lacking (ts ++ us) (rw (entries-appen
 -- all of the new one's fields are behind the old ones
 begins-end : (ts : Shapes) → Begins tellNothing readNothing (row (reading head) ts)
 unfolding tellNothing readNothing entries
-begins-end ts = record { begins = λ x. go x (row-stays ts x) }
+begins-end ts = record { begins = λ x. go x (row-stays head-sound ts x) }
   where
     go : (x : Spot) {es : List Entry} {o : Outcome} → Stays x es o → Begun tellNothing (readNothing x) es o
     go x (reaches n l e s) = begun (part [] refl (sym s))
@@ -258,4 +258,4 @@ old-reads old new a message es end e = go (rw e at (appends-law keeps appending 
     ended (Part.lacking ts a) s = rw a
 
     go : Begun (tell old) (read old (front message)) es (reached end) → seen message (end .place) (tell old es) ≡ some (read old (front message))
-    go (begun p) = ended p (read-stays old (front message))
+    go (begun p) = ended p (read-stays head-sound old (front message))

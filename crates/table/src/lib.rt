@@ -11,6 +11,7 @@ ghost use Rattle.wire.specs.Tests.{pick, both};
 ghost use Rattle.wire.specs.Walk.{following, isKnown};
 ghost use Rattle.wire.specs.Table.{u16At, layoutAt, goodNumbers, goodTrailer, isKind, kindOf, recordOf, nodeAt, firstChild, childCount, goodKind, goodNode, checkFrom};
 ghost use Rattle.wire.specs.Table.{below as allBelow, check as checkOf};
+ghost use Rattle.laws.specs.KindRanges.{isInner};
 ghost use Rattle.laws.specs.Tables.{nodeFirst, nodeCount, GoodTable};
 ghost use Rattle.table.specs.Parts.{Inside, listed, badAt, followed, Falls, fieldsOf, Flat};
 
@@ -326,6 +327,16 @@ pub fn kind_at(table: &[u8], l: Layout, i: usize) -> u8
 {
     let at = l.records + RECORD * i;
     table[at]
+}
+
+// Whether a kind, given by its number, has children.
+pub fn is_inner(number: u8) -> bool
+    ensures { λ r. ⌜ r ≡ isInner number ⌝ }
+{
+    match number {
+        15..=19 => true,
+        _ => false,
+    }
 }
 
 // Where the numbers of a node's children begin.

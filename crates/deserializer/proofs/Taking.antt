@@ -19,7 +19,8 @@ use Rattle.laws.specs.Bounds.{Fits, takes as fits}
 use Rattle.laws.proofs.Splits.{by-lt, not-both}
 use Rattle.laws.proofs.Bounds.{head-fits}
 use Rattle.laws.proofs.Parts.{tail}
-use Rattle.leaf.specs.Leaves.{isLeaf, takeAt}
+use Rattle.laws.specs.KindRanges.{isLeaf}
+use Rattle.leaf.specs.Leaves.{takeAt}
 use Rattle.leaf.proofs.Leaves.{low-leaf, high-leaf}
 
 -- ---- which kinds

@@ -23,7 +23,8 @@ use Rattle.laws.specs.Bounds.{Fits, takes}
 use Rattle.laws.proofs.Splits.{by-lt, of-pick}
 use Rattle.laws.proofs.Bounds.{head-fits}
 use Rattle.laws.proofs.EachKind.{end, _&_, in-kinds, low-kinds, high-kinds}
-use Rattle.leaf.specs.Leaves.{isLeaf, takeAt}
+use Rattle.laws.specs.KindRanges.{isLeaf}
+use Rattle.leaf.specs.Leaves.{takeAt}
 use Rattle.leaf.proofs.Leaves.{low-leaf, high-leaf, is-leaf}
 use Rattle.read_item.specs.Steps.{Puts, entry, same}
 

@@ -20,9 +20,8 @@ use Rattle.wire.specs.declared.TakeAnswer.{TakeAnswer}
 use Rattle.wire.specs.declared.TakeAnswer.the-variants.{Done as Taken, Refused as NotTaken}
 use mir.Val.{boolByte}
 use Rattle.wire.specs.Reading.{Run, Outcome, reached, refused}
-use Rattle.reader.specs.Promise.{Reads}
-use Rattle.writer.specs.Promise.{Writes}
 use Rattle.wire.specs.Answers.{refusalNumber, numbered, done, checkSays, readSays, writeSays, takeSays, askSays, readAnswer, placeAfter, Form, writeAnswer}
+use Rattle.laws.specs.Answered.{Reads, Writes}
 use Rattle.exports.specs.Calls.{Told, Read, Wrote, sideNumber, whichOf, bit, yesOf, Asked, firstOf, secondOf, Took}
 
 -- ---- the check

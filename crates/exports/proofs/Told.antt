@@ -19,9 +19,8 @@ use Rattle.wire.specs.declared.AskAnswer.the-variants.{Says, Refused as NotAske
 use Rattle.wire.specs.declared.TakeAnswer.{TakeAnswer}
 use Rattle.wire.specs.declared.TakeAnswer.the-variants.{Done as Taken, Refused as NotTaken}
 use Rattle.wire.specs.Reading.{Run, Outcome, reached, refused}
-use Rattle.reader.specs.Promise.{Reads}
-use Rattle.writer.specs.Promise.{Writes}
 use Rattle.wire.specs.Answers.{sideNumber, yesNumber, refusalNumber, numbered, done, checkSays, readSays, writeSays, takeSays, askSays, readAnswer, placeAfter, Form}
+use Rattle.laws.specs.Answered.{Reads, Writes}
 use Rattle.exports.specs.Calls.{Told, Read, Wrote, whichOf, yesOf, Asked, firstOf, secondOf, Took}
 
 -- ---- the check

@@ -1,4 +1,4 @@
--- The public promises, from what the cycle gives for the root, whose number stands in the trailer.
+-- The contracts of the public calls, from what the cycle gives for the root, whose number stands in the trailer.
 -- Assumes nothing.
 use mathlib.Core.Path.{_≡_, refl, sym, ap, ap₂, _∙_}
 use mathlib.Core.List.{List, [], _∷_}
@@ -9,20 +9,18 @@ use lib.ListN.{length, drop}
 use lib.Seq.{sets, sets-eq}
 use Rattle.wire.specs.declared.Refusal.{Refusal}
 use Rattle.wire.specs.declared.Layout.{Layout}
-use Rattle.wire.specs.declared.Checked.{Checked}
 use Rattle.wire.specs.declared.Checked.the-variants.{Good, Bad}
 use Rattle.wire.specs.declared.ReadAnswer.{ReadAnswer}
 use Rattle.wire.specs.declared.ReadAnswer.the-variants.{Done, Refused}
-use Rattle.wire.specs.Table.{check, shapeOf}
+use Rattle.wire.specs.Table.{check}
 use Rattle.wire.specs.Values.{Entry}
-use Rattle.wire.specs.Reading.{Spot, past, Outcome, reached, refused, Run, front, head, runAfter, reading, read, within, fit}
+use Rattle.wire.specs.Reading.{Outcome, reached, refused, Run, front, head, runAfter, reading, read, within, fit}
 use Rattle.wire.specs.Answers.{words, roomOf, readBy, readAnswer, restOf, storeWith, reads}
-use Rattle.laws.specs.Bounds.{Stays, reaches, refuses}
+use Rattle.laws.specs.Answered.{Reads}
 use Rattle.laws.specs.Tables.{nodeShape}
-use Rattle.laws.proofs.Bounds.{read-stays}
 use Rattle.laws.proofs.Children.{row-once}
 use Rattle.laws.proofs.Places.{length-words}
-use Rattle.laws.proofs.Runs.{then-nothing, fit-reached}
+use Rattle.laws.proofs.Runs.{then-nothing}
 use Rattle.laws.proofs.Tables.{good-table}
 use Rattle.laws.proofs.Unique.{by-equation}
 use Rattle.table.proofs.Stretches.{root-number}
@@ -32,7 +30,7 @@ use Rattle.read_item.specs.Steps.{readRow, headed, readRounds}
 use Rattle.reader.proofs.Rounds.{SameReading}
 use Rattle.reader.proofs.Turns.{flat-rounds}
 use Rattle.reader.specs.Steps.{Gives}
-use Rattle.reader.specs.Promise.{Reads, RestIsLeft, OneReading, OneRest}
+use Rattle.reader.specs.Promise.{OneReading, OneRest}
 
 -- ---- the store
 
@@ -83,25 +81,6 @@ module _ (message : List ℕ) (a : ReadAnswer) where
   pub rest-refused : {e : Refusal} {p n : ℕ} → a ≡ Refused e p n → [] ≡ restOf message a
   unfolding restOf
   rest-refused e = rw e
-
--- a spot that the whole reading reaches stands so many bytes behind the message's front
-reached-behind : (message : List ℕ) (es : List Entry) {o : Outcome} (x : Spot) → Stays (front message) es o → o ≡ reached x → drop (x .place) message ≡ x .bytes
-unfolding past
-reached-behind message es x (reaches {z} n l e s) h =
-    let here : x ≡ record { bytes = drop n message; place = 0 + n } = cc in rw (here, zero-add n)
-reached-behind message es x (refuses l e s) h = let z : _≡_ {A = ℕ} 0 1 = cc in absurd (omega arith)
-
-pub rest-is-left : RestIsLeft
-unfolding reads readBy restOf readAnswer
-rest-is-left table message store n x = go (check table)
-  where
-    go : (c : Checked) → readBy c table (roomOf store) message .ends ≡ reached x → drop (x .place) message ≡ x .bytes
-    go (Good l) e =
-        let run = read (shapeOf table l) (front message) in
-        let fitted = fit (roomOf store) run in
-        let free = fit-reached (roomOf store) run (fitted .made) x (ap (λ o. record { made = fitted .made; ends = o }) e) .1 in
-        reached-behind message (run .made) x (read-stays (shapeOf table l) (front message)) (ap (λ r. r .ends) free)
-    go (Bad e i) h = let z : _≡_ {A = ℕ} 0 1 = cc in absurd (omega arith)
 
 -- ---- no choice
 

@@ -8,12 +8,12 @@ ghost use mathlib.Core.Path.{_≡_};
 ghost use Prim.Native.Nat.{_+_, _/_, _^_, _<_, _≤_};
 ghost use lib.ListN.{length};
 ghost use Rattle.wire.specs.Answers.{reads, restOf};
+ghost use Rattle.laws.specs.Answered.{Reads};
 ghost use Rattle.laws.specs.Tables.{GoodTable};
 ghost use Rattle.table.specs.Parts.{Falls};
 ghost use Rattle.read_item.specs.Lay.{lay};
 ghost use Rattle.read_item.specs.Steps.{spot, readNode, readRow, readRounds, Inner};
 ghost use Rattle.reader.specs.Steps.{Gives, Begins};
-ghost use Rattle.reader.specs.Promise.{Reads};
 
 // ---- rounds
 

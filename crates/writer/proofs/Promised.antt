@@ -22,6 +22,7 @@ use Rattle.wire.specs.Shape.{Shape}
 use Rattle.wire.specs.Table.{check, shapeOf}
 use Rattle.wire.specs.Writing.{Wrote, wrote, misfit, wroteAfter, write}
 use Rattle.wire.specs.Answers.{wordsPer, Form, form, noForm, formOf, formed, writeBy, writes, writeAnswer, outWith}
+use Rattle.laws.specs.Answered.{Writes}
 use Rattle.output.specs.Bytes.{cap, Puts}
 use Rattle.output.proofs.Counting.{cap-above, cap-within}
 use Rattle.write_list.specs.declared.Put.{Put}
@@ -29,7 +30,7 @@ use Rattle.write_list.specs.declared.Put.the-variants as put
 use Rattle.write_list.specs.Steps.{entries, Sure, Going, GivesBy, Gives}
 use Rattle.writer.specs.declared.Few.{Few}
 use Rattle.writer.specs.declared.Few.the-variants as few
-use Rattle.writer.specs.Promise.{Writes, Tried, OneWriting}
+use Rattle.writer.specs.Promise.{Tried, OneWriting}
 use Rattle.writer.specs.Promise as promise
 use Rattle.write_list.proofs.Entries.{entries-none, entries-more}
 

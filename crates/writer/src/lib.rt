@@ -12,8 +12,9 @@ ghost use Rattle.wire.specs.Table.{shapeOf};
 ghost use Rattle.wire.specs.Table.{check as checkOf};
 ghost use Rattle.wire.specs.Writing.{write as writeShape};
 ghost use Rattle.wire.specs.Answers.{formed, writes};
+ghost use Rattle.laws.specs.Answered.{Writes};
 ghost use Rattle.write_list.specs.Steps.{entries};
-ghost use Rattle.writer.specs.Promise.{Writes, Tried};
+ghost use Rattle.writer.specs.Promise.{Tried};
 
 // So long is a form that the first pass keeps.
 const SHORT: usize = 64;

@@ -7,7 +7,7 @@ use Rattle.wire.specs.Shape.{Kind, plain, pooled, option, sequence, map, struct
 use Rattle.wire.specs.Append.{isOpen, Matches, same, First, ended, appended, also, Appends, matching, fields, matches, firsts, isOpenRoot, appends}
 use Rattle.laws.proofs.Splits.{not-both, both-left, both-right, both-yes}
 use Rattle.laws.proofs.Numbering.{same-kind, kind-itself}
-use Rattle.promises.specs.Question.{YesExactly}
+use Rattle.promises.specs.Shapes.{ShapeYesExactly}
 
 -- ---- below the roots
 
@@ -69,5 +69,5 @@ unfolding appends
 appends-complete (matching (same {k} f)) = both-yes _ _ (kind-itself k) (firsts-complete (root-complete k f))
 appends-complete (fields f) = both-yes _ _ (kind-itself struct) (unfold isOpenRoot sameKind decided pick in firsts-complete f)
 
-pub yes-exactly : YesExactly
-yes-exactly s t = (appends-sound s t, appends-complete)
+pub shape-yes-exactly : ShapeYesExactly
+shape-yes-exactly s t = (appends-sound s t, appends-complete)

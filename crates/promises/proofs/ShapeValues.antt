@@ -11,9 +11,11 @@ use Rattle.wire.specs.Shape.{Shape}
 use Rattle.wire.specs.Values.{Entry, Tag, Told, kept, lacks, short, tell, Value, valueOf, valued, values}
 use Rattle.wire.specs.Reading.{Spot, front, reached, Run, read, fit}
 use Rattle.laws.proofs.Runs.{within-reached, within-refused, fit-reached}
-use Rattle.promises.specs.OldNew.{entries, seen, OldReadsWithin, over, OldValues, all-kept, cut, NeverAnother}
+use Rattle.promises.specs.OldNew.{entries}
+use Rattle.promises.specs.Shapes.{seen, ShapeOldReadsWithin, OldValues, all-kept, cut, ShapeNeverAnother}
+use Rattle.promises.specs.Telling.{over}
 use Rattle.promises.proofs.Told.{tells-all, kept-again, lacks-again}
-use Rattle.promises.proofs.OldNew.{own-told, old-reads}
+use Rattle.promises.proofs.ShapeReads.{own-told, shape-old-reads}
 use Rattle.promises.proofs.Begin.{tags, tags-begin}
 
 -- ---- with a store
@@ -29,10 +31,10 @@ seen-within room message end (kept ts rest) r h l e = fit-same room (within-reac
 seen-within room message end (lacks ts x rest) r h l e = fit-same room (within-refused room (entries ts) _ _ (omega (arith, simp length-append at (ap length h)))) e
 seen-within room message end (short ts) r h l e = cc
 
-pub old-reads-within : OldReadsWithin
-old-reads-within old new a room message es end e =
+pub shape-old-reads-within : ShapeOldReadsWithin
+shape-old-reads-within old new a room message es end e =
     let enough = fit-reached room (read new (front message)) es end e in
-    seen-within room message (end .place) (tell old es) _ (tells-all old es) (enough .0) (old-reads old new a message es end (enough .1))
+    seen-within room message (end .place) (tell old es) _ (tells-all old es) (enough .0) (shape-old-reads old new a message es end (enough .1))
 
 -- ---- the values
 
@@ -41,12 +43,12 @@ new-whole : (new : Shape) (message : List ℕ) (es : List Entry) (end : Spot)
     → read new (front message) ≡ record { made = es; ends = reached end } → (ts : List Tag) × (tell new es ≡ kept ts [])
 new-whole new message es end e = let own = own-told new (front message) end es [] e in (own .0, rw (append-nil es) at (own .2))
 
-pub never-another : NeverAnother
+pub shape-never-another : ShapeNeverAnother
 unfolding seen values valued tags
-never-another old new a room message es end e = (
+shape-never-another old new a room message es end e = (
   vs,
   rw (own .1),
-  go (tell old es) refl (old-reads-within old new a room message es end e),
+  go (tell old es) refl (shape-old-reads-within old new a room message es end e),
 )
   where
     own : (ts : List Tag) × (tell new es ≡ kept ts [])

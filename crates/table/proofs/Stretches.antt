@@ -3,19 +3,17 @@
 use mathlib.Core.Path.{_≡_, refl, ap, fun-ext, _∙_}
 use mathlib.Core.Bool.{Bool, true, false}
 use mathlib.Core.List.{List}
-use Prim.Native.Nat.{ℕ, zero, suc, _+_, _-_, _*_, _<_, _≤_}
+use Prim.Native.Nat.{ℕ, suc, _+_, _-_, _*_, _<_, _≤_}
 use native.Mathlib.Nat.{add-zero}
 use native.Mathlib.Omega.{arith}
 use lib.ListN.{length}
 use borrow.Author.Tests.{ltb-true}
 use Rattle.wire.specs.declared.Layout.{Layout}
-use Rattle.wire.specs.declared.Checked.{Checked}
-use Rattle.wire.specs.declared.Checked.the-variants.{Good, Bad}
+use Rattle.wire.specs.declared.Checked.the-variants.{Good}
 use Rattle.wire.specs.Shape.{Kind, struct}
 use Rattle.wire.specs.Walk.{Follow, each, only, following, isKnown, Walk, Step, all, times, along, walk, walks}
-use Rattle.wire.specs.Table.{u16At, layoutAt, kinds, kindOf, Node, nodeAt, recordOf, firstChild, childCount, shapesAt, checkFrom, checkAt, check}
+use Rattle.wire.specs.Table.{u16At, kinds, kindOf, Node, nodeAt, recordOf, firstChild, childCount, shapesAt, check}
 use Rattle.laws.specs.Tables.{nodeFirst, nodeCount, nodeShape, GoodTable}
-use Rattle.laws.proofs.Splits.{of-given}
 use Rattle.laws.proofs.Tables.{next-place, good-table}
 use Rattle.laws.proofs.Children.{times-none, times-more, row-none, row-more, row-once, only-once, walk-node}
 use Rattle.table.specs.Parts.{followed, Falls, fieldsOf, Flat, bare, alone, under, nodeStep, rowStep, roundsStep, EndsBare}
@@ -125,28 +123,9 @@ module _ {s : List ℕ} {l : Layout} {i from n : ℕ} {way : Way} (g : GoodTable
 
 -- ---- the root, whose number stands in the trailer
 
-abbrev Laid : Layout → Checked → Type 0
-Laid l (Good m) = l ≡ m
-Laid l (Bad e i) = Unit {0}
-
-from-laid : (s : List ℕ) (l : Layout) (i n : ℕ) → Laid l (checkFrom s l i n)
-unfolding checkFrom
-from-laid s l i zero = refl
-from-laid s l i (suc n) = of-given (Laid l) _ _ _ (λ _. from-laid s l (i + 1) n) (λ _. tt)
-
-check-laid : (s : List ℕ) → Laid (layoutAt s (length s - 10)) (check s)
-unfolding check checkAt
-check-laid s =
-    of-given (Laid (layoutAt s (length s - 10))) _ _ _
-    (λ _. of-given (Laid (layoutAt s (length s - 10))) _ _ _ (λ _. from-laid s (layoutAt s (length s - 10)) 0 _) (λ _. tt)) (λ _. tt)
-
 module _ (s : List ℕ) {l : Layout} (good : check s ≡ Good l) (at : ℕ) (place : at + 4 ≡ length s) where
   pub root-number : u16At s at ≡ l .root
-  unfolding layoutAt
-  root-number =
-      let laid : layoutAt s (length s - 10) ≡ l = rw good at (check-laid s) in
-      let here : at ≡ length s - 10 + 6 = omega (arith, good-table s l good .children-end) in
-      ap (u16At s) here ∙ ap (λ m. m .root) laid
+  root-number = let here : at ≡ length s - 4 = omega arith in rw here (good-table s l good .root-stands)
 
   pub root-falls : Falls s at 1 (l .nodes)
   root-falls =

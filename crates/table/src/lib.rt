@@ -365,7 +365,7 @@ pub fn child_count(table: &[u8], l: Layout, i: usize) -> usize
 
 // Where the root's number stands, in the trailer.
 pub fn root_at(table: &[u8]) -> usize
-    requires { ⌜ 10 ≤ length (now table) ⌝ }
+    requires { ⌜ 4 ≤ length (now table) ⌝ }
     ensures { λ r. ⌜ r + 4 ≡ length (now (table .entry)) ⌝ }
 {
     table.len() - 4

@@ -14,8 +14,9 @@ use wire::Layout;
 use wire::ReadAnswer;
 ghost use Prim.Native.Nat.{_+_, _*_, _≤_, _<_};
 ghost use lib.ListN.{length};
+ghost use Rattle.wire.specs.Shape.{depth as depthOf};
 ghost use Rattle.wire.specs.Table.{nodeAt, recordOf};
-ghost use Rattle.laws.specs.Tables.{nodeCount, GoodTable};
+ghost use Rattle.laws.specs.Tables.{nodeCount, nodeShape, GoodTable};
 
 // What follows an item: rounds over the children from one position up to another.
 struct Span {
@@ -68,7 +69,7 @@ fn show_item(
     at: usize,
 ) -> usize
     requires { ⌜ GoodTable (now table) l ⌝ }
-    requires { ⌜ (node < l .nodes) × (depth + node ≤ 256) ⌝ }
+    requires { ⌜ (node < l .nodes) × (depth + depthOf (nodeShape (now table) l node) ≤ 256) ⌝ }
     requires { ⌜ (at < count) × (2 * count ≤ length (now words)) ⌝ }
     ensures { λ r. ⌜ r ≤ count ⌝ }
 {
@@ -105,7 +106,7 @@ fn show_rounds(
     at: usize,
 ) -> usize
     requires { ⌜ GoodTable (now table) l ⌝ }
-    requires { ⌜ (node < l .nodes) × (depth + node ≤ 257) ⌝ }
+    requires { ⌜ (node < l .nodes) × (depth + depthOf (nodeShape (now table) l node) ≤ 257) ⌝ }
     requires { ⌜ way .to ≤ nodeCount (nodeAt (now table) (recordOf l node)) ⌝ }
     requires { ⌜ (at ≤ count) × (2 * count ≤ length (now words)) ⌝ }
     ensures { λ r. ⌜ r ≤ count ⌝ }
@@ -148,7 +149,7 @@ fn show_round(
     at: usize,
 ) -> usize
     requires { ⌜ GoodTable (now table) l ⌝ }
-    requires { ⌜ (node < l .nodes) × (depth + node ≤ 257) ⌝ }
+    requires { ⌜ (node < l .nodes) × (depth + depthOf (nodeShape (now table) l node) ≤ 257) ⌝ }
     requires { ⌜ to ≤ nodeCount (nodeAt (now table) (recordOf l node)) ⌝ }
     requires { ⌜ (at ≤ count) × (2 * count ≤ length (now words)) ⌝ }
     ensures { λ r. ⌜ r ≤ count ⌝ }

@@ -1,0 +1,31 @@
+-- `listing::entries::show_entries` is safe: no chain of a good table's root is too long.
+-- Assumes nothing.
+use native.Mathlib.Omega.{arith}
+use borrow.Author.Needs.{needs}
+use Rattle.listing.proofs.entries.show_entries.Statement.{statement}
+use Rattle.listing.proofs.entries.show_entries.Tie as tie
+
+slice-aggregate-say : tie.Need-slice-aggregate-say
+slice-aggregate-say c = search needs
+
+say-requires : tie.Need-say-requires
+say-requires c κs = search needs
+
+show-item-requires : tie.Need-show-item-requires
+show-item-requires c κs =
+    let good = c .before .before .before .before .before .before .before .pre in
+    (good, ((good .root-below, omega (arith, good .short-chains _ (good .root-below))), search needs))
+
+returns : tie.Need-returns
+returns c = search needs
+
+returns-2 : tie.Need-returns-2
+returns-2 c = search needs
+
+returns-3 : tie.Need-returns-3
+returns-3 c = search needs
+
+pub show-entries-spec : {M : Type 1} → statement M
+show-entries-spec =
+    tie.close
+    (tie.spec slice-aggregate-say say-requires show-item-requires returns returns-2 returns-3)

@@ -5,7 +5,7 @@ ghost use Rattle.wire.specs.Shape.{depth as depthOf};
 ghost use Rattle.wire.specs.Table.{nodeAt, recordOf};
 ghost use Rattle.laws.specs.Tables.{nodeCount, nodeShape, GoodTable};
 
-// The number of a node's child at a position, which is below the node's own, as its chain of children is shorter.
+// The number of a node's child at a position: it is below the node's own, and the child's chain is shorter.
 pub fn child(table: &[u8], l: Layout, node: usize, k: usize) -> usize
     requires { ⌜ GoodTable (now table) l ⌝ }
     requires { ⌜ node < l .nodes ⌝ }

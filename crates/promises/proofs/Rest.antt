@@ -25,7 +25,7 @@ reached-behind message es x (reaches {z} n l e s) h =
 reached-behind message es x (refuses l e s) h = let z : _≡_ {A = ℕ} 0 1 = cc in absurd (omega arith)
 
 pub rest-is-left : RestIsLeft
-unfolding reads readBy restOf readAnswer
+unfolding reads readBy restOf readAnswer read
 rest-is-left table message store n x = go (check table)
   where
     go : (c : Checked) → readBy c table (roomOf store) message .ends ≡ reached x → drop (x .place) message ≡ x .bytes

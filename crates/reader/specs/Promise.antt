@@ -6,7 +6,7 @@ use Prim.Native.Nat.{ℕ}
 use lib.ListN.{length}
 use Rattle.wire.specs.declared.ReadAnswer.{ReadAnswer}
 use Rattle.wire.specs.Reading.{Spot, reached, Run}
-use Rattle.wire.specs.Answers.{reads, readAnswer, storeWith, restOf}
+use Rattle.wire.specs.Answers.{roomOf, reads, readAnswer, runAnswer, skims, storeWith, restOf}
 use Rattle.laws.specs.Unique.{Unique}
 
 -- the answer, and the store as it is left, are those of a run
@@ -19,6 +19,10 @@ abbrev pub RestIsLeft : Type 0
 RestIsLeft = (table message store : List ℕ) (n : ℕ) (x : Spot) → reads table message store .ends ≡ reached x
     → restOf message (readAnswer (reached x) n) ≡ x .bytes
 
+-- a skim with a store's room answers what a read with that store does
+abbrev pub SkimIsRead : Type 0
+SkimIsRead = (table message store : List ℕ) → skims table message (roomOf store) ≡ runAnswer (reads table message store)
+
 -- ---- no choice
 
 abbrev pub OneReading : Type 0
@@ -26,3 +30,6 @@ OneReading = (table message store : List ℕ) → Unique (λ (r : ReadAnswer × 
 
 abbrev pub OneRest : Type 0
 OneRest = (message : List ℕ) (a : ReadAnswer) → Unique (λ (r : List ℕ). r ≡ restOf message a)
+
+abbrev pub OneSkim : Type 0
+OneSkim = (table message : List ℕ) (room : ℕ) → Unique (λ (r : ReadAnswer). r ≡ skims table message room)

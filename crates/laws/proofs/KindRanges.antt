@@ -8,7 +8,6 @@ use lib.ListN.{take}
 use lib.Seq.{getD-take}
 use lib.Dec.{leb}
 use borrow.Author.Tests.{leb-true, le-leb}
-use Rattle.wire.specs.Tests.{both}
 use Rattle.wire.specs.Shape.{le, be, unit, Kind, plain, pooled, option, sequence, map, struct, enum}
 use Rattle.wire.specs.Walk.{each, following}
 use Rattle.wire.specs.Table.{kinds, kindOf}

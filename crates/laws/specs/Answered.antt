@@ -3,15 +3,14 @@
 use mathlib.Core.Path.{_≡_}
 use mathlib.Core.List.{List}
 use Prim.Native.Nat.{ℕ}
-use lib.ListN.{length}
 use Rattle.wire.specs.declared.ReadAnswer.{ReadAnswer}
 use Rattle.wire.specs.declared.WriteAnswer.{WriteAnswer}
 use Rattle.wire.specs.Reading.{Run}
-use Rattle.wire.specs.Answers.{readAnswer, storeWith, Form, writeAnswer, outWith}
+use Rattle.wire.specs.Answers.{runAnswer, storeWith, Form, writeAnswer, outWith}
 
 -- the answer, and the store as it is left, are those of a run
 pub record Reads (w : Run) (store : List ℕ) (a : ReadAnswer) (left : List ℕ) : Type 0 where
-  pub answered : a ≡ readAnswer (w .ends) (length (w .made))
+  pub answered : a ≡ runAnswer w
   pub stored : left ≡ storeWith (w .made) store
 
 -- the answer, and the output as it is left, are those of a form

@@ -13,3 +13,4 @@ pub mod RoundTrips
 pub mod SameBytes
 pub mod Shortest
 pub mod Rest
+pub mod Skim

@@ -4,7 +4,7 @@ use mathlib.Core.Path.{_≡_}
 use mathlib.Core.List.{List}
 use Prim.Native.Nat.{ℕ}
 use Rattle.wire.specs.declared.ReadAnswer.{ReadAnswer}
-use Rattle.wire.specs.Answers.{reads, restOf}
+use Rattle.wire.specs.Answers.{reads, skims, restOf}
 use Rattle.laws.specs.Answered.{Reads}
 use Rattle.laws.specs.Unique.{Unique}
 
@@ -15,3 +15,7 @@ OneReading = (table message store : List ℕ) → Unique (λ (r : ReadAnswer × 
 -- One part meets the contract of `rest`.
 abbrev pub OneRest : Type 0
 OneRest = (message : List ℕ) (a : ReadAnswer) → Unique (λ (r : List ℕ). r ≡ restOf message a)
+
+-- One answer meets the contract of `skim`.
+abbrev pub OneSkim : Type 0
+OneSkim = (table message : List ℕ) (room : ℕ) → Unique (λ (r : ReadAnswer). r ≡ skims table message room)

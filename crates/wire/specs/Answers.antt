@@ -135,6 +135,14 @@ unfoldable pub readAnswer : Outcome → ℕ → ReadAnswer
 readAnswer (reached x) n = Read (x .place) n
 readAnswer (refused e p) n = NotRead e p n
 
+-- a whole run's
+abbrev pub runAnswer : Run → ReadAnswer
+runAnswer w = readAnswer (w .ends) (length (w .made))
+
+-- a reading that stores nothing, with room for so many entries
+unfoldable pub skims : List ℕ → List ℕ → (room : ℕ) → ReadAnswer
+skims table message room = runAnswer (readBy (check table) table room message)
+
 -- the unread bytes: none on a refusal, and none where the answer points beyond the message
 unfoldable pub restOf : List ℕ → ReadAnswer → List ℕ
 restOf message (Read p n) = drop p message

@@ -1,7 +1,8 @@
 // An entry's words: how many there are, and where they stand in a value list or a store.
 ghost use mathlib.Core.Path.{_≡_};
 ghost use mathlib.Core.List.{[], _∷_};
-ghost use Prim.Native.Nat.{_/_, _%_, _<_};
+ghost use Prim.Native.Nat.{_*_, _/_, _%_, _<_};
+ghost use lib.ListN.{take};
 ghost use lib.Dec.{eqb};
 ghost use Rattle.wire.specs.Answers.{wordsPer, roomOf};
 ghost use Rattle.entry.specs.Words.{firstAt, secondAt, putAt};
@@ -47,4 +48,15 @@ pub fn put(store: &mut [u64], at: usize, first: u64, second: u64)
         store[to] = first;
         store[to + 1] = second;
     }
+}
+
+// The words of the first so many entries; all if there are fewer.
+pub fn front(words: &[u64], count: usize) -> &[u64]
+    ensures { λ r. ⌜ now r ≡ take (wordsPer * count) (now (words .entry)) ⌝ }
+{
+    if count <= room(words.len()) {
+        let end = WORDS * count;
+        return &words[..end];
+    }
+    words
 }

@@ -40,10 +40,10 @@ fn say_entry(first: u64, second: u64) {
 pub fn say_entries(store: &[u64], count: usize) {
     let mut i = 0;
     while i < count {
-        if store.len() / 2 <= i {
+        if entry::room(store.len()) <= i {
             return;
         }
-        say_entry(store[2 * i], store[2 * i + 1]);
+        say_entry(entry::first(store, i), entry::second(store, i));
         i += 1;
     }
 }

@@ -66,7 +66,19 @@ fn read_item(
     }
     let number = table::kind_at(table, l, node);
     if table::is_inner(number) {
-        return read_inner(table, l, node, number, part, place, room, store, made);
+        let got = read_inner(table, l, node, number, part, place, room, store, made);
+        // Made anew, so that a leaf's answer does not go through memory with this one.
+        let ReadAnswer::Done {
+            place: behind,
+            count,
+        } = got
+        else {
+            return got;
+        };
+        return ReadAnswer::Done {
+            place: behind,
+            count,
+        };
     }
     read_item::read_leaf(number, part, place, store, made)
 }

@@ -130,8 +130,8 @@ module _ (t : ℕ) where
         (s .pre .1 .0, (s .pre .1 .1 .0, (record { kind = c .before .before .before .kind-at .ensures; inner = inner }, (omega arith, s .pre .1 .1 .1)))),
       )
 
-  item-returns-3 : read-item-lts.Need-returns-3 item-calls item-at read-item.Post
-  item-returns-3 c =
+  item-returns-4 : read-item-lts.Need-returns-4 item-calls item-at read-item.Post
+  item-returns-4 c =
       let s = c .before .before .before .before .before .before .before .before .before .before .before in
       let outer = not-inner _ (sym (c .before .before .before .before .before .is-inner .ensures) ∙ c .before .before .before .before .if2 .left) in
       let kind = c .before .before .before .before .before .before .kind-at .ensures in
@@ -249,7 +249,8 @@ pub +read-inner+read-item+read-rounds+read-stretch-spec : {M : Type 1} → state
     (λ t.
     read-item-lts.spec (item-calls t) (item-at t) read-item.Post
     (item-returns t) (λ c κs. let p = c .before .before .before .before .pre .1 in (p .0, p .1 .0)) (λ c κs. tt) (item-read-inner-requires t)
-    (λ c. c .before .before .read-inner .kept .1 .1 .1 .1 .1 .1 .1 .0) (λ c. c .before .before .read-inner .ensures) (λ c κs. (c .before .before .before .before .before .before .before .before .pre .1 .1 .1, omega arith)) (λ c. c .before .before .read-leaf .kept .1 .1 .1 .0) (item-returns-3 t))
+    (λ c. c .match .keys1) (λ c. c .match .keys2) (λ c. c .before .before .before .before .read-inner .kept .1 .1 .1 .1 .1 .1 .1 .0) (λ c. c .before .before .before .before .read-inner .ensures)
+    (λ c. c .before .before .before .before .before .read-inner .kept .1 .1 .1 .1 .1 .1 .1 .0) (λ c. rw (c .before .got .given .1) at (c .before .before .before .before .before .read-inner .ensures)) (λ c κs. (c .before .before .before .before .before .before .before .before .pre .1 .1 .1, omega arith)) (λ c. c .before .before .read-leaf .kept .1 .1 .1 .0) (item-returns-4 t))
     (λ t.
     read-rounds-lts.spec (rounds-calls t) (rounds-at t) read-rounds.Post rounds-Inv rounds-μ
     (λ c. (refl, refl, refl)) (λ c κs. tt) (λ c. c .match .keys1) (λ c. c .match .keys2) (λ c. c .before .before .before .before .begin .kept .1 .1 .0 ∙ c .before .before .before .before .before .before .before .loop .inv .2) (rounds-returns t)

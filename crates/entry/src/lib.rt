@@ -23,6 +23,7 @@ pub fn whole(words: usize) -> bool
     words % WORDS == 0
 }
 
+// The words of the entry of a number.
 pub fn first(words: &[u64], at: usize) -> u64
     requires { ⌜ at < roomOf (now words) ⌝ }
     ensures { λ r. ⌜ r ≡ firstAt (now (words .entry)) at ⌝ }

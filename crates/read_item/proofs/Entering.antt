@@ -58,8 +58,8 @@ module _ {s : List ℕ} {l : Layout} {i : ℕ} (g : GoodTable s l) (below : i < 
   pub number-small : (k : ℕ) → k ≡ nodeAt s (recordOf l i) .number → k < 32
   number-small k e = omega (arith, kind-below (nodeAt s (recordOf l i) .number) (g .node-good i below .is-kind))
 
-  pub children-inside : {k n from : ℕ} → Found (nodeAt s (recordOf l i)) k n → from ≡ nodeFirst l i (nodeAt s (recordOf l i)) → from + 2 * n ≤ length s
-  children-inside f first = rw (first, f .count) (node-falls g below .inside)
+  pub children-inside : {n from : ℕ} → n ≡ nodeCount (nodeAt s (recordOf l i)) → from ≡ nodeFirst l i (nodeAt s (recordOf l i)) → from + 2 * n ≤ length s
+  children-inside count first = rw (first, count) (node-falls g below .inside)
 
 -- ---- what it leaves
 

@@ -63,11 +63,11 @@ module _ (w : Walk) (s : List ℕ) (l : Layout) where
     unfolding roundsStep
     rounds-first e = times-more w (under w h n (rowStep w s l from n)) c x e
 
-  module _ (bare : EndsBare w) where
+  module _ (ends : EndsBare w) where
     -- one node, once
     pub rounds-once : (from : ℕ) (x : w .From) → roundsStep w s l 1 false from 1 x ≡ nodeStep w s l (u16At s from) x
     unfolding roundsStep under rowStep nodeStep
-    rounds-once from x = row-once w (nodeShape s l) s bare from x
+    rounds-once from x = row-once w (nodeShape s l) s ends from x
 
     -- what follows an item
     pub along-followed : (way : Follow) (from n : ℕ) → isKnown way n ≡ true → (x : w .From)
@@ -75,7 +75,7 @@ module _ (w : Walk) (s : List ℕ) (l : Layout) where
         ≡ roundsStep w s l (followed way from n .rounds) false (followed way from n .from) (followed way from n .width) x
     unfolding roundsStep under rowStep along followed isKnown
     along-followed (each c) from n k x = refl
-    along-followed (only v) from n k x = only-once w (nodeShape s l) s bare from n v (ltb-true v n k) x
+    along-followed (only v) from n k x = only-once w (nodeShape s l) s ends from n v (ltb-true v n k) x
 
 -- ---- a stretch that is one struct alone
 
@@ -83,16 +83,16 @@ pub fields-are : (l : Layout) (i a b : ℕ) (r : Node) → r .number ≡ 18 → 
 unfolding fieldsOf firstChild childCount kindOf kinds
 fields-are l i a b r e ea eb = rw (ea, eb, e)
 
-module _ (w : Walk) (bare : EndsBare w) where
+module _ (w : Walk) (ends : EndsBare w) where
   one-node : (s : List ℕ) (l : Layout) (from : ℕ) (x : w .From) → rowStep w s l from 1 x ≡ nodeStep w s l (u16At s from) x
   unfolding rowStep nodeStep all walk shapesAt
-  one-node s l from x = bare _ x
+  one-node s l from x = ends _ x
 
   -- a struct is its fields under its entry
   struct-item : (k : Kind) → k ≡ struct → (m : ℕ) (fs : List (Step w)) (x : w .From)
       → w .item k m (λ a. along w (following k a) fs) x ≡ under w true m (all w fs) x
   unfolding under following along times
-  struct-item k e m fs x = rw e (ap (λ f. w .item struct m (λ a. f) x) (fun-ext (bare (all w fs))))
+  struct-item k e m fs x = rw e (ap (λ f. w .item struct m (λ a. f) x) (fun-ext (ends (all w fs))))
 
 module _ {s : List ℕ} {l : Layout} {i from n : ℕ} {way : Way} (g : GoodTable s l) (h : i ≤ l .nodes) where
   pub flat-falls : Flat s l i from n way → Falls s (way .from) (way .width) i

@@ -29,8 +29,8 @@ first-child-requires c κs = search needs
 follow-requires : tie.Need-follow-requires
 follow-requires c κs =
     let s = c .before .before .before .before .before .before .before .before .before .before .before .before .before in
-    let f : Found _ _ _ = record { kind = s .pre .1 .1 .kind; count = c .before .before .before .before .before .before .before .before .before .child-count .ensures } in
-    (head-known _ _ _ _ (sym (c .before .before .before .before .before .before .before .before .head-bytes .ensures) ∙ c .before .before .before .before .before .before .own2 .given .1), omega (arith, children-inside (s .pre .0) (s .pre .1 .0) f (c .first-child .ensures)))
+    let inside = children-inside (s .pre .0) (s .pre .1 .0) (c .before .before .before .before .before .before .before .before .before .child-count .ensures) (c .first-child .ensures) in
+    (head-known _ _ _ _ (sym (c .before .before .before .before .before .before .before .before .head-bytes .ensures) ∙ c .before .before .before .before .before .before .own2 .given .1), omega arith)
 
 returns : tie.Need-returns
 returns c =

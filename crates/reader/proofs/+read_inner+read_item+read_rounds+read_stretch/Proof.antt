@@ -119,7 +119,7 @@ module _ (t : ℕ) where
   item-calls = (kind-at-reads.Asked, kind-at-reads.Learnt, is-inner-reads.Asked, is-inner-reads.Learnt, and 3 read-inner-kinds.ps (falls 3 read-inner-kinds.ps _<_ μ-inner t) read-inner.Pre, read-inner.Post, read-leaf-reads.Asked, read-leaf-reads.Learnt)
 
   item-returns : read-item-lts.Need-returns item-calls item-at read-item.Post
-  item-returns c = let s = c .before .before .before .before in gives-refused (item-full _ _ (s .pre .1 .0) (s .pre .1 .1 .0) _ _ _ (c .if1 .taken))
+  item-returns c = let s = c .before .before .before .before in gives-refused (item-full _ _ (s .pre .1 .0) (s .pre .1 .1 .0) _ _ _ (omega arith))
 
   item-read-inner-requires : read-item-lts.Need-read-inner-requires item-calls item-at read-item.Post
   item-read-inner-requires c κs =

@@ -47,7 +47,7 @@ pub data Kind : Type 0 where
   deriving Discrete as Kind-discrete
 
 unfoldable pub sameKind : Kind → Kind → Bool
-sameKind k l = decided (Kind-discrete (Plain-discrete Sign-discrete Width-discrete Order-discrete) Content-discrete k l)
+sameKind k k′ = decided (Kind-discrete (Plain-discrete Sign-discrete Width-discrete Order-discrete) Content-discrete k k′)
 
 -- a node: its kind and its children, in the table's order
 mutual

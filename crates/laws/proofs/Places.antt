@@ -83,10 +83,11 @@ valued-bare pool (kept ts (e ∷ es)) = rw (tags-bare pool ts)
 valued-bare pool (lacks ts e es) = rw (tags-bare pool ts)
 valued-bare pool (short ts) = rw (tags-bare pool ts)
 
-entries-bare : (es : List Entry) → entriesOf (words es) ≡ lists.map bare es
+-- a list's words are its entries again
+pub entries-words : (es : List Entry) → entriesOf (words es) ≡ es
 unfolding entriesOf words wordsOf
-entries-bare [] = refl
-entries-bare (e ∷ es) = rw (entries-bare es)
+entries-words [] = refl
+entries-words (e ∷ es) = rw (entries-words es)
 
 -- entries and their words alone have the same values
 pub values-words : (t : Shape) (pool : List ℕ) (es : List Entry) → values t pool (entriesOf (words es)) ≡ values t pool es
@@ -104,7 +105,8 @@ pub length-entries : (ws : List ℕ) → length ws % wordsPer ≡ 0 → wordsPer
 unfolding entriesOf
 length-entries [] h = refl
 length-entries (a ∷ []) h = absurd (omega arith)
-length-entries (a ∷ b ∷ s) h = let ih = length-entries s (omega arith) in omega arith
+length-entries (a ∷ b ∷ []) h = absurd (omega arith)
+length-entries (a ∷ b ∷ p ∷ s) h = let ih = length-entries s (omega arith) in omega arith
 
 -- the words in front of a store are those of the entries laid there
 pub front-words : (es : List Entry) (n : ℕ) (store : List ℕ) → wordsPer * length es ≡ n → take n (storeWith es store) ≡ words es

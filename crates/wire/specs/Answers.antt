@@ -87,7 +87,7 @@ writeSays (Written p) = done p
 writeSays (NotWritten e p) = numbered e p
 
 unfoldable pub takeSays : TakeAnswer → Numbered
-takeSays (Taken a b p) = done p
+takeSays (Taken a b at p) = done p
 takeSays (NotTaken e p) = numbered e p
 
 unfoldable pub askSays : AskAnswer → Numbered
@@ -97,10 +97,10 @@ askSays (NotAsked t e i) = numbered e i
 -- ---- entries as words
 
 abbrev pub wordsPer : ℕ
-wordsPer = 2
+wordsPer = 3
 
 unfoldable pub wordsOf : Entry → List ℕ
-wordsOf e = e .first ∷ e .second ∷ []
+wordsOf e = e .first ∷ e .second ∷ e .place ∷ []
 
 unfoldable pub words : List Entry → List ℕ
 words [] = []
@@ -110,7 +110,8 @@ words (e ∷ es) = wordsOf e ++ words es
 unfoldable pub entriesOf : List ℕ → List Entry
 entriesOf [] = []
 entriesOf (a ∷ []) = []
-entriesOf (a ∷ b ∷ s) = record { first = a; second = b; place = 0 } ∷ entriesOf s
+entriesOf (a ∷ b ∷ []) = []
+entriesOf (a ∷ b ∷ p ∷ s) = record { first = a; second = b; place = p } ∷ entriesOf s
 
 -- a store's room in entries
 unfoldable pub roomOf : List ℕ → ℕ
@@ -154,7 +155,7 @@ unfoldable pub mayTake : ℕ → Bool
 mayTake k = pick (ltb k 14) true (both (leb 20 k) (isKind k))
 
 unfoldable pub taken : ℕ → Item → TakeAnswer
-taken p (Took a b n) = Taken a b (p + n)
+taken p (Took a b n) = Taken a b p (p + n)
 taken p (Refused e) = NotTaken e p
 
 unfoldable pub takes : ℕ → List ℕ → ℕ → TakeAnswer
@@ -165,7 +166,7 @@ takes k message p =
 
 -- the place of the record after that: behind the item, or as it was
 unfoldable pub placeAfter : ℕ → TakeAnswer → ℕ
-placeAfter p (Taken a b q) = q
+placeAfter p (Taken a b at q) = q
 placeAfter p (NotTaken e q) = p
 
 -- ---- writing

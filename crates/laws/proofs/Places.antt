@@ -10,10 +10,10 @@ use Rattle.wire.specs.Values.{Entry}
 use Rattle.wire.specs.Answers.{wordsPer, words, wordsOf, entriesOf, storeWith}
 
 -- a list's words are its entries again
-pub entries-words : (es : List Entry) → entriesOf (words es) ≡ es
+pub words-entries : (es : List Entry) → entriesOf (words es) ≡ es
 unfolding entriesOf words wordsOf
-entries-words [] = refl
-entries-words (e ∷ es) = rw (entries-words es)
+words-entries [] = refl
+words-entries (e ∷ es) = rw (words-entries es)
 
 pub length-words : (es : List Entry) → length (words es) ≡ wordsPer * length es
 unfolding words wordsOf

@@ -93,8 +93,8 @@ fn feeding(idx: u64, array: [u8; ROOM], chunk: &[u8]) -> Result<(), Differs> {
 
 pub fn take(kind: u64, message: &[u8], place: usize) -> Result<(), Differs> {
     let ours = reystavem::take(kind, message, place).map_err(numbered);
-    let right = read::take(u8::try_from(kind).unwrap_or(u8::MAX), message, place)
-        .map_err(|Refusal { no, place }| (no, place));
+    let right =
+        read::take(u8::try_from(kind).unwrap_or(u8::MAX), message, place).map_err(|Refusal { no, place }| (no, place));
     same("answer", ours.map(|(entry, behind)| ([entry.first, entry.second, entry.place as u64], behind)), right)?;
     let (number, entry, behind) = match right {
         Ok((entry, behind)) => (0, entry, behind),

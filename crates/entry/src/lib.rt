@@ -4,7 +4,7 @@ ghost use Prim.Native.Nat.{_*_, _/_, _%_, _<_};
 ghost use lib.ListN.{take};
 ghost use lib.Dec.{eqb};
 ghost use Rattle.wire.specs.Answers.{wordsPer, roomOf};
-ghost use Rattle.entry.specs.Words.{firstAt, secondAt, withEntry};
+ghost use Rattle.entry.specs.Words.{firstAt, secondAt, placeAt, withEntry};
 
 pub const WORDS: usize = 3;
 
@@ -36,6 +36,15 @@ pub fn second(words: &[u64], at: usize) -> u64
     ensures { λ r. ⌜ r ≡ secondAt (now (words .entry)) at ⌝ }
 {
     let i = WORDS * at + 1;
+    words[i]
+}
+
+// The place of the item's first byte.
+pub fn place(words: &[u64], at: usize) -> u64
+    requires { ⌜ at < roomOf (now words) ⌝ }
+    ensures { λ r. ⌜ r ≡ placeAt (now (words .entry)) at ⌝ }
+{
+    let i = WORDS * at + 2;
     words[i]
 }
 

@@ -78,11 +78,11 @@ fn put_few(table: &[u8], l: Layout, words: &[u64], out: &mut [u8]) -> Few
     let front = write_list::put_front(table, l, words, &mut small);
     if front.left == 0 {
         if entry::room(words.len()) <= front.at {
-            let used = front.used;
-            if used <= SHORT {
-                if used <= out.len() {
-                    output::put_bytes(&small[..used], out, 0);
-                    return Few::Put { used };
+            let n = front.used;
+            if n <= SHORT {
+                if n <= out.len() {
+                    output::put_bytes(&small[..n], out, 0);
+                    return Few::Put { used: n };
                 }
             }
         }

@@ -30,7 +30,7 @@ pub fn say_bytes(bytes: &[u8]) {
     }
 }
 
-// An entry's two words.
+// An entry's first two words.
 fn say_entry(first: u64, second: u64) {
     say_with(b" (#", first);
     say_with(b", #)", second);
@@ -40,10 +40,12 @@ fn say_entry(first: u64, second: u64) {
 pub fn say_entries(store: &[u64], count: usize) {
     let mut i = 0;
     while i < count {
-        if store.len() / 2 <= i {
+        if entry::room(store.len()) <= i {
             return;
         }
-        say_entry(store[2 * i], store[2 * i + 1]);
+        let first = entry::first(store, i);
+        let second = entry::second(store, i);
+        say_entry(first, second);
         i += 1;
     }
 }

@@ -49,6 +49,9 @@ rest-requires c κs = search needs
 say-line-requires : tie.Need-say-line-requires
 say-line-requires c κs = search needs
 
+room-requires : tie.Need-room-requires
+room-requires c κs = search needs
+
 mul-store : tie.Need-mul-store
 mul-store c = search needs
 
@@ -88,6 +91,7 @@ read-back-spec =
     say-requires-2
     rest-requires
     say-line-requires
+    room-requires
     mul-store
     array-share-prefix-store
     slice-aggregate-write-again

@@ -2,8 +2,12 @@
 -- Assumes nothing.
 use native.Mathlib.Omega.{arith}
 use borrow.Author.Needs.{needs}
+use Rattle.wire.specs.Answers.{roomOf}
 use Rattle.listing.proofs.entries.show_entries.Statement.{statement}
 use Rattle.listing.proofs.entries.show_entries.Tie as tie
+
+room-requires : tie.Need-room-requires
+room-requires c κs = search needs
 
 slice-aggregate-say : tie.Need-slice-aggregate-say
 slice-aggregate-say c = search needs
@@ -12,8 +16,9 @@ say-requires : tie.Need-say-requires
 say-requires c κs = search needs
 
 show-item-requires : tie.Need-show-item-requires
+unfolding roomOf
 show-item-requires c κs =
-    let good = c .before .before .before .before .before .before .before .pre in
+    let good = c .before .before .before .before .before .before .before .before .pre in
     (good, ((good .root-below, omega (arith, good .short-chains _ (good .root-below))), search needs))
 
 returns : tie.Need-returns
@@ -28,4 +33,4 @@ returns-3 c = search needs
 pub show-entries-spec : {M : Type 1} → statement M
 show-entries-spec =
     tie.close
-    (tie.spec slice-aggregate-say say-requires show-item-requires returns returns-2 returns-3)
+    (tie.spec room-requires slice-aggregate-say say-requires show-item-requires returns returns-2 returns-3)

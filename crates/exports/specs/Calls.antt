@@ -63,9 +63,9 @@ unfoldable pub atOf : TakeAnswer → ℕ
 atOf (Taken a b at p) = at
 atOf (NotTaken e p) = 0
 
-pub record Took (t : TakeAnswer) (before r p a b at : ℕ) : Type 0 where
+pub record Took (t : TakeAnswer) (before r p a b q : ℕ) : Type 0 where
   pub number : r ≡ takeSays t .number
   pub place : p ≡ placeAfter before t
   pub first : a ≡ firstOf t
   pub second : b ≡ secondOf t
-  pub at : at ≡ atOf t
+  pub at : q ≡ atOf t

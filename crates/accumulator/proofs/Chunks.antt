@@ -1,11 +1,11 @@
--- Parts of lists: one put whole into an array, two put there one behind the other, and the rest behind what is consumed.
+-- Parts of lists: one put whole into an array, two put there one behind the other.
 -- Assumes nothing.
-use mathlib.Core.Path.{_≡_, refl, sym, _∙_}
+use mathlib.Core.Path.{_≡_, refl}
 use mathlib.Core.List.{List, [], _∷_, _++_, append-assoc}
-use Prim.Native.Nat.{ℕ, _+_, _-_, _<_}
+use Prim.Native.Nat.{ℕ, _+_, _-_}
 use native.Mathlib.Omega.{arith}
-use lib.ListN.{length, take, drop, take-append-drop, length-append, length-drop, drop-of-length-le}
-use lib.Seq.{paste, take-length, take-at, take-all, drop-length}
+use lib.ListN.{length, take, drop, take-append-drop, length-append}
+use lib.Seq.{paste, take-length, take-at}
 use Rattle.accumulator.specs.Parts.{with}
 
 pub pasted : (array part : List ℕ) (at i : ℕ) → i ≡ length part → paste array at part i ≡ with array at part
@@ -20,9 +20,3 @@ pub joined : (zeros front back : List ℕ) {array array′ : List ℕ} → array
 joined zeros front back first second =
     let so-far : take (length front) (front ++ drop (0 + length front) zeros) ≡ front = take-at front (drop (0 + length front) zeros) (length front) refl in
     rw (second, first, so-far, ← append-assoc front back) (take-at (front ++ back) _ (length front + length back) (length-append front back))
-
-pub tail : (s : List ℕ) (a : ℕ) → take (length s - a) (drop a s) ≡ drop a s
-tail s a = take-all (length s - a) (drop a s) (omega (arith, length-drop a s))
-
-pub no-tail : (s : List ℕ) (a : ℕ) → length s < a → take (length s - length s) (drop (length s) s) ≡ drop a s
-no-tail s a hi = tail s (length s) ∙ drop-length s ∙ sym (drop-of-length-le s {i = a} (omega arith))

@@ -5,7 +5,6 @@ ghost use mathlib.Core.Path.{_≡_};
 ghost use mathlib.Core.List.{[], _++_};
 ghost use Prim.Native.Nat.{_+_, _≤_};
 ghost use lib.ListN.{length, drop, replicate};
-ghost use Rattle.wire.specs.Answers.{feedNumber};
 ghost use Rattle.wire.specs.Frames.{room, gapAfter, toZero, padded, feedOn, feedEnd};
 ghost use Rattle.wire.specs.Frames.{decode as messageOf, feed as fedBy};
 ghost use Rattle.accumulator.specs.Feeding.{written, feedLent, without, Feeds, FeedsBy};
@@ -47,19 +46,6 @@ enum Found {
 enum Decoded {
     Message(usize),
     Bad,
-}
-
-// Document 01's number of an answer.
-pub fn number(answer: FeedAnswer) -> u64
-    ensures { λ r. ⌜ r ≡ feedNumber answer ⌝ }
-{
-    match answer {
-        FeedAnswer::Consumed => 20,
-        FeedAnswer::OverFull => 21,
-        FeedAnswer::BadFrame => 22,
-        FeedAnswer::Frame => 23,
-        FeedAnswer::BadState => 24,
-    }
 }
 
 fn first_zero(s: &[u8]) -> Found
@@ -278,11 +264,5 @@ pub fn feed(state: Accumulator, chunk: &[u8]) -> Fed
 pub fn rest(chunk: &[u8], fed: Fed) -> &[u8]
     ensures { λ r. ⌜ now r ≡ drop (fed .used) (now (chunk .entry)) ⌝ }
 {
-    let used = fed.used;
-    let end = chunk.len();
-    if used <= end {
-        &chunk[used..]
-    } else {
-        &chunk[end..]
-    }
+    tail::from(chunk, fed.used)
 }

@@ -14,7 +14,7 @@ use Rattle.wire.specs.Tests.{pick, both}
 use Rattle.wire.specs.Shape.{Shape}
 use Rattle.wire.specs.Table.{u16At, kindOf, nodeAt, recordOf, shapesAt, shapeOf}
 use Rattle.wire.specs.Append.{isOpen, isOpenRoot, matches, firsts, appends}
-use Rattle.laws.specs.Tables.{nodeFirst, nodeCount, nodeShape, GoodTable}
+use Rattle.laws.specs.Tables.{nodeFirst, nodeCount, nodeShape, GoodTable, Limits}
 use Rattle.laws.proofs.Splits.{by-test, not-both}
 use Rattle.laws.proofs.Children.{shapes-none, shapes-more, matches-nodes, appends-nodes, firsts-counts}
 use Rattle.table.specs.Parts.{Falls}
@@ -140,7 +140,7 @@ module _ {s t : List ℕ} {l m : Layout} {i j : ℕ} {a : List ℕ} (asked : Ask
 
   -- a pair's bit lies within the area
   pub pair-inside : (i * width + j) / 8 < length a
-  pair-inside = omega (arith, asked .old .few-nodes, asked .new .few-nodes)
+  pair-inside = omega (arith, asked .few-old .few-nodes, asked .few-new .few-nodes)
 
   -- marking a pair that matches keeps the area sound
   pub sound-marking : {b : List ℕ} → length b ≡ length a → Sound s l t m b → true ≡ matches (nodeShape s l i) (nodeShape t m j)
@@ -151,7 +151,7 @@ module _ {s t : List ℕ} {l m : Layout} {i j : ℕ} {a : List ℕ} (asked : Ask
     where
       here : (p q : ℕ) → p < l .nodes → q < m .nodes → p * width + q ≡ i * width + j → matches (nodeShape s l p) (nodeShape t m q) ≡ true
       here p q h k w =
-          let few = asked .new .few-nodes in
+          let few = asked .few-new .few-nodes in
           let less = asked .right in
           let e : p ≡ i = omega arith in
           let f : q ≡ j = omega arith in
@@ -159,23 +159,25 @@ module _ {s t : List ℕ} {l m : Layout} {i j : ℕ} {a : List ℕ} (asked : Ask
 
 -- ---- an area of zeros, and the roots
 
-module _ {s t : List ℕ} {l m : Layout} (old : GoodTable s l) (new : GoodTable t m) where
+module _ {s t : List ℕ} {l m : Layout} (good : GoodTable s l × GoodTable t m) (few : Limits l × Limits m) where
   pub fresh-asked : {i j : ℕ} → i < l .nodes → j < m .nodes → Asked s l i t m j (replicate area 0)
   fresh-asked left right = record {
-    old = old;
-    new = new;
+    old = good .0;
+    new = good .1;
+    few-old = few .0;
+    few-new = few .1;
     left = left;
     right = right;
     room = omega (arith, length-replicate {A = ℕ} area 0);
-    sound = record { found = λ i j h k e. none-marked area (i * width + j) (omega (arith, old .few-nodes, new .few-nodes)) e };
+    sound = record { found = λ i j h k e. none-marked area (i * width + j) (omega (arith, few .0 .few-nodes, few .1 .few-nodes)) e };
   }
 
   pub roots-asked : Asked s l (l .root) t m (m .root) (replicate area 0)
-  roots-asked = fresh-asked (old .root-below) (new .root-below)
+  roots-asked = fresh-asked (good .0 .root-below) (good .1 .root-below)
 
-  pub appends-alike : {x : ℕ} {free : Bool} → x ≡ Number s l (l .root) → free ≡ isOpenRoot (kindOf x)
-      → alike free s l (l .root) t m (m .root) ≡ appends (shapeOf s l) (shapeOf t m)
-  unfolding alike
-  appends-alike e f =
-      rw (f, e, old .its-shape, new .its-shape)
-      (sym (appends-nodes (old .node-good (l .root) (old .root-below)) (new .node-good (m .root) (new .root-below))))
+pub appends-alike : {s t : List ℕ} {l m : Layout} → GoodTable s l × GoodTable t m → {x : ℕ} {free : Bool} → x ≡ Number s l (l .root) → free ≡ isOpenRoot (kindOf x)
+    → alike free s l (l .root) t m (m .root) ≡ appends (shapeOf s l) (shapeOf t m)
+unfolding alike
+appends-alike {l} {m} (old, new) e f =
+    rw (f, e, old .its-shape, new .its-shape)
+    (sym (appends-nodes (old .node-good (l .root) (old .root-below)) (new .node-good (m .root) (new .root-below))))

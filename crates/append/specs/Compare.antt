@@ -13,7 +13,7 @@ use Rattle.wire.specs.Tests.{pick, both}
 use Rattle.wire.specs.Table.{nodeAt, recordOf, check}
 use Rattle.wire.specs.Append.{firsts}
 use Rattle.wire.specs.Answers.{askBy}
-use Rattle.laws.specs.Tables.{nodeShapes, GoodTable}
+use Rattle.laws.specs.Tables.{nodeShapes, GoodTable, Limits}
 use Rattle.append.specs.Area.{area, Sound}
 
 -- so many old children go with so many new ones: as many, or at least as many where more may follow
@@ -30,10 +30,12 @@ alike free s l i t m j =
 abbrev pub after : List ℕ → Layout → List ℕ → AskAnswer
 after s l t = askBy (Good l) (check t) s t
 
--- two nodes of two good tables, and a work area in which a pair is marked only if it matches
+-- two nodes of two good tables that keep to the limits, and a work area in which a pair is marked only if it matches
 pub record Asked (s : List ℕ) (l : Layout) (i : ℕ) (t : List ℕ) (m : Layout) (j : ℕ) (a : List ℕ) : Type 0 where
   pub old : GoodTable s l
   pub new : GoodTable t m
+  pub few-old : Limits l
+  pub few-new : Limits m
   pub left : i < l .nodes
   pub right : j < m .nodes
   pub room : area ≤ length a

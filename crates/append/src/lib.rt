@@ -10,7 +10,7 @@ ghost use lib.ListN.{length};
 ghost use Rattle.wire.specs.Table.{isKind, kindOf, shapeOf};
 ghost use Rattle.wire.specs.Append.{isOpen, isOpenRoot, matches, appends as appendsOf};
 ghost use Rattle.wire.specs.Answers.{asks};
-ghost use Rattle.laws.specs.Tables.{nodeShape, GoodTable};
+ghost use Rattle.laws.specs.Tables.{nodeShape, GoodTable, Limits};
 ghost use Rattle.append.specs.Area.{marked, marking};
 ghost use Rattle.append.specs.Compare.{suits, alike, after, Asked, Told};
 
@@ -140,6 +140,7 @@ fn compare(
 // The same for a caller that keeps no work area.
 pub fn pair_matches(old: &[u8], l: Layout, i: usize, new: &[u8], m: Layout, j: usize) -> bool
     requires { ⌜ GoodTable (now old) l × GoodTable (now new) m ⌝ }
+    requires { ⌜ Limits l × Limits m ⌝ }
     requires { ⌜ (i < l .nodes) × (j < m .nodes) ⌝ }
     ensures { λ r. ⌜ r ≡ matches (nodeShape (now (old .entry)) l i) (nodeShape (now (new .entry)) m j) ⌝ }
 {
@@ -152,6 +153,7 @@ pub fn pair_matches(old: &[u8], l: Layout, i: usize, new: &[u8], m: Layout, j: u
 // Whether the new one of two good tables appends to the old one.
 pub fn roots_append(old: &[u8], l: Layout, new: &[u8], m: Layout) -> bool
     requires { ⌜ GoodTable (now old) l × GoodTable (now new) m ⌝ }
+    requires { ⌜ Limits l × Limits m ⌝ }
     ensures { λ r. ⌜ r ≡ appendsOf (shapeOf (now (old .entry)) l) (shapeOf (now (new .entry)) m) ⌝ }
 {
     let mut area = [0u8; AREA];
@@ -164,7 +166,7 @@ pub fn roots_append(old: &[u8], l: Layout, new: &[u8], m: Layout) -> bool
 
 // The answer where the old table is good.
 fn after_old(old: &[u8], l: Layout, new: &[u8]) -> AskAnswer
-    requires { ⌜ GoodTable (now old) l ⌝ }
+    requires { ⌜ GoodTable (now old) l × Limits l ⌝ }
     ensures { λ r. ⌜ r ≡ after (now (old .entry)) l (now (new .entry)) ⌝ }
 {
     match table::check(new) {

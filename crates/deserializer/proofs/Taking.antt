@@ -5,8 +5,7 @@ use mathlib.Core.Bool.{true, false}
 use mathlib.Core.List.{List}
 use Prim.Native.Nat.{ℕ, _+_, _-_, _<_, _≤_, _^_}
 use native.Mathlib.Omega.{arith}
-use lib.ListN.{length, take, drop, length-drop, drop-of-length-le}
-use lib.Seq.{drop-length}
+use lib.ListN.{length, take, drop, length-drop}
 use borrow.Author.Tests.{lt-ltb, le-ltb, le-leb, lt-leb}
 use Rattle.wire.specs.declared.Refusal.the-variants.{End, Record}
 use Rattle.wire.specs.declared.Item.{Item}
@@ -20,7 +19,8 @@ use Rattle.laws.specs.Bounds.{Fits, takes as fits}
 use Rattle.laws.proofs.Splits.{by-lt, not-both}
 use Rattle.laws.proofs.Bounds.{head-fits}
 use Rattle.laws.proofs.Parts.{tail}
-use Rattle.leaf.specs.Leaves.{isLeaf, takeAt}
+use Rattle.laws.specs.KindRanges.{isLeaf}
+use Rattle.leaf.specs.Leaves.{takeAt}
 use Rattle.leaf.proofs.Leaves.{low-leaf, high-leaf}
 
 -- ---- which kinds
@@ -76,8 +76,3 @@ module _ (k p : ℕ) (message : List ℕ) where
             go : (i : Item) → Fits (drop p message) i → Took a b n ≡ i → p + n < 2 ^ 64
             go (Took c d u) (fits l) same = let v : n ≡ u = cc in omega (arith, length-drop p message)
             go (Refused w) f same = let z : _≡_ {A = ℕ} 0 1 = cc in absurd (omega arith)
-
--- ---- the rest
-
-pub no-tail : (s : List ℕ) (p : ℕ) → length s < p → take (length s - length s) (drop (length s) s) ≡ drop p s
-no-tail s p h = tail s (length s) ∙ drop-length s ∙ sym (drop-of-length-le s {i = p} (omega arith))

@@ -24,8 +24,8 @@ abbrev pub OneNew : Type 0
 OneNew = (message : RefT (List ℕ)) → Unique (λ (r : Deserializer). r ≡ fresh message)
 
 -- the answer, and the record at exit
-abbrev pub OneTake : Type 0
-OneTake = (k : ℕ) (d : Deserializer) → Unique (λ (x : TakeAnswer × Deserializer). (x .0 ≡ takesNext k d) × (x .1 ≡ moved d (x .0)))
+abbrev pub OneRecordTake : Type 0
+OneRecordTake = (k : ℕ) (d : Deserializer) → Unique (λ (x : TakeAnswer × Deserializer). (x .0 ≡ takesNext k d) × (x .1 ≡ moved d (x .0)))
 
-abbrev pub OneRest : Type 0
-OneRest = (d : Deserializer) → Unique (λ (r : List ℕ). r ≡ restFrom d)
+abbrev pub OneRecordRest : Type 0
+OneRecordRest = (d : Deserializer) → Unique (λ (r : List ℕ). r ≡ restFrom d)

@@ -68,12 +68,7 @@ pub fn place_after(place: usize, answer: TakeAnswer) -> usize
 pub fn rest_at(message: &[u8], place: usize) -> &[u8]
     ensures { λ r. ⌜ now r ≡ drop place (now (message .entry)) ⌝ }
 {
-    let end = message.len();
-    if place <= end {
-        &message[place..]
-    } else {
-        &message[end..]
-    }
+    tail::from(message, place)
 }
 
 // A message and the place of its next item.

@@ -1,7 +1,7 @@
 -- Each case of an answer has the number and the place that the definition gives it.
 -- Assumes nothing.
 use mathlib.Core.Path.{_≡_, refl, sym, ap, _∙_}
-use mathlib.Core.Bool.{Bool, true, false}
+use mathlib.Core.Bool.{Bool}
 use mathlib.Core.List.{List}
 use Prim.Native.Nat.{ℕ}
 use lib.ListN.{length}
@@ -18,12 +18,10 @@ use Rattle.wire.specs.declared.AskAnswer.{AskAnswer}
 use Rattle.wire.specs.declared.AskAnswer.the-variants.{Says, Refused as NotAsked}
 use Rattle.wire.specs.declared.TakeAnswer.{TakeAnswer}
 use Rattle.wire.specs.declared.TakeAnswer.the-variants.{Done as Taken, Refused as NotTaken}
-use mir.Val.{boolByte}
 use Rattle.wire.specs.Reading.{Run, Outcome, reached, refused}
-use Rattle.reader.specs.Promise.{Reads}
-use Rattle.writer.specs.Promise.{Writes}
-use Rattle.wire.specs.Answers.{refusalNumber, numbered, done, checkSays, readSays, writeSays, takeSays, askSays, readAnswer, placeAfter, Form, writeAnswer}
-use Rattle.exports.specs.Calls.{Told, Read, Wrote, sideNumber, whichOf, bit, yesOf, Asked, firstOf, secondOf, Took}
+use Rattle.wire.specs.Answers.{sideNumber, yesNumber, refusalNumber, numbered, done, checkSays, readSays, writeSays, takeSays, askSays, readAnswer, placeAfter, Form}
+use Rattle.laws.specs.Answered.{Reads, Writes}
+use Rattle.exports.specs.Calls.{Told, Read, Wrote, whichOf, yesOf, Asked, firstOf, secondOf, Took}
 
 -- ---- the check
 
@@ -75,13 +73,9 @@ module _ {f : Form} {out left : List ℕ} {r : WriteAnswer} (h : Writes f out r 
 
 -- ---- the append question
 
-bit-byte : (b : Bool) → boolByte b ≡ bit b
-bit-byte true = refl
-bit-byte false = refl
-
-pub ask-says : {a r : AskAnswer} {y : Bool} → r ≡ a → r ≡ Says y → Asked a 0 0 0 (boolByte y)
+pub ask-says : {a r : AskAnswer} {y : Bool} {n : ℕ} → r ≡ a → r ≡ Says y → n ≡ yesNumber y → Asked a 0 0 0 n
 unfolding askSays done whichOf yesOf
-ask-says {y} e g = rw (← e, g) (record { told = record { number = refl; place = refl }; which = refl; yes = bit-byte y })
+ask-says e g h = rw (← e, g) (record { told = record { number = refl; place = refl }; which = refl; yes = h })
 
 pub ask-refused : {a r : AskAnswer} {t : Side} {w : Refusal} {i n m : ℕ} → r ≡ a → r ≡ NotAsked t w i → n ≡ refusalNumber w → m ≡ sideNumber t → Asked a n i m 0
 unfolding askSays numbered whichOf yesOf

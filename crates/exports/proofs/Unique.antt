@@ -5,7 +5,7 @@ use mathlib.Core.List.{List}
 use Prim.Native.Nat.{ℕ}
 use native.Mathlib.Omega.{arith}
 use lib.ListN.{length, length-drop}
-use Rattle.exports.specs.Unique.{OneTold, OneRead, OneWrote, OneAsked, OneFed, OneTook}
+use Rattle.exports.specs.Unique.{OneTold, OneRead, OneWrote, OneAsked, OneFedCall, OneTook}
 
 -- two that equal a third
 alike : {A : Type 0} {a x y : A} → x ≡ a → y ≡ a → x ≡ y
@@ -37,8 +37,8 @@ one-asked a x y h k = λ i. (
   alike (h .yes) (k .yes) i,
 )
 
-pub one-fed : OneFed
-one-fed f chunk x y h k =
+pub one-fed-call : OneFedCall
+one-fed-call f chunk x y h k =
     let from : x .3 ≡ y .3 = omega (arith, simp length-drop at (ap length (alike (h .rest) (k .rest)))) in
     λ i. (
       alike (h .number) (k .number) i,

@@ -1,18 +1,15 @@
 -- What each function of the static library returns and leaves in the numbers, words and bytes that it was lent.
 -- Assumes nothing.
 use mathlib.Core.Path.{_≡_}
-use mathlib.Core.Bool.{Bool, true, false}
 use mathlib.Core.List.{List}
 use Prim.Native.Nat.{ℕ, _≤_}
 use lib.ListN.{length, drop}
-use Rattle.wire.specs.declared.Side.{Side}
-use Rattle.wire.specs.declared.Side.the-variants.{Old, New}
 use Rattle.wire.specs.declared.AskAnswer.{AskAnswer}
 use Rattle.wire.specs.declared.AskAnswer.the-variants.{Says, Refused as NotAsked}
 use Rattle.wire.specs.declared.TakeAnswer.{TakeAnswer}
 use Rattle.wire.specs.declared.TakeAnswer.the-variants.{Done as Taken, Refused as NotTaken}
 use Rattle.wire.specs.Reading.{Run}
-use Rattle.wire.specs.Answers.{feedNumber, Numbered, readSays, writeSays, takeSays, askSays, storeWith, readAnswer, placeAfter, Form, writeAnswer, outWith}
+use Rattle.wire.specs.Answers.{sideNumber, yesNumber, feedNumber, Numbered, readSays, writeSays, takeSays, askSays, storeWith, readAnswer, placeAfter, Form, writeAnswer, outWith}
 use Rattle.accumulator.specs.Feeding.{Lent}
 
 -- document 01's number is returned, and the place left
@@ -29,22 +26,14 @@ pub record Wrote (f : Form) (out : List ℕ) (r p : ℕ) (out′ : List ℕ) : T
   pub told : Told (writeSays (writeAnswer f)) r p
   pub written : out′ ≡ outWith f out
 
--- which table is refused: 0 old, 1 new
-abbrev pub sideNumber : Side → ℕ
-sideNumber Old = 0
-sideNumber New = 1
-
+-- which table is refused, 0 where none is
 unfoldable pub whichOf : AskAnswer → ℕ
 whichOf (Says y) = 0
 whichOf (NotAsked t e i) = sideNumber t
 
--- 1 for yes, 0 for no and on a refusal
-abbrev pub bit : Bool → ℕ
-bit true = 1
-bit false = 0
-
+-- 0 on a refusal
 unfoldable pub yesOf : AskAnswer → ℕ
-yesOf (Says y) = bit y
+yesOf (Says y) = yesNumber y
 yesOf (NotAsked t e i) = 0
 
 pub record Asked (a : AskAnswer) (r p t y : ℕ) : Type 0 where

@@ -22,8 +22,8 @@ OneWrote = (f : Form) (out : List ℕ) → Unique (λ (x : ℕ × ℕ × List �
 abbrev pub OneAsked : Type 0
 OneAsked = (a : AskAnswer) → Unique (λ (x : ℕ × ℕ × ℕ × ℕ). Asked a (x .0) (x .1) (x .2) (x .3))
 
-abbrev pub OneFed : Type 0
-OneFed = (f : Lent) (chunk : List ℕ) → Unique (λ (x : ℕ × ℕ × ℕ × ℕ × List ℕ × List ℕ). Fed f chunk (x .0) (x .1) (x .2) (x .3) (x .4) (x .5))
+abbrev pub OneFedCall : Type 0
+OneFedCall = (f : Lent) (chunk : List ℕ) → Unique (λ (x : ℕ × ℕ × ℕ × ℕ × List ℕ × List ℕ). Fed f chunk (x .0) (x .1) (x .2) (x .3) (x .4) (x .5))
 
 abbrev pub OneTook : Type 0
 OneTook = (t : TakeAnswer) (before : ℕ) → Unique (λ (x : ℕ × ℕ × ℕ × ℕ). Took t before (x .0) (x .1) (x .2) (x .3))

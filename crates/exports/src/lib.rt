@@ -2,46 +2,13 @@
 use wire::AskAnswer;
 use wire::Checked;
 use wire::ReadAnswer;
-use wire::Refusal;
-use wire::Side;
 use wire::TakeAnswer;
 use wire::WriteAnswer;
-ghost use mathlib.Core.Path.{_≡_};
 ghost use lib.ListN.{length};
 ghost use Rattle.wire.specs.Table.{check};
-ghost use Rattle.wire.specs.Answers.{refusalNumber, checkSays, reads, takes, writes, asks};
+ghost use Rattle.wire.specs.Answers.{checkSays, reads, takes, writes, asks};
 ghost use Rattle.accumulator.specs.Feeding.{feedLent};
-ghost use Rattle.exports.specs.Calls.{Told, Read, Wrote, sideNumber, Asked, Fed, Took};
-
-// Document 01's number of a refusal.
-fn number(why: Refusal) -> u64
-    ensures { λ r. ⌜ r ≡ refusalNumber why ⌝ }
-{
-    match why {
-        Refusal::Trailer => 1,
-        Refusal::Record => 2,
-        Refusal::End => 3,
-        Refusal::BadVarint => 4,
-        Refusal::BadBool => 5,
-        Refusal::BadChar => 6,
-        Refusal::BadUtf8 => 7,
-        Refusal::BadOption => 8,
-        Refusal::Variant => 9,
-        Refusal::Room => 10,
-        Refusal::Values => 11,
-        Refusal::Full => 12,
-    }
-}
-
-// 0 for the old table, 1 for the new one.
-fn side_number(side: Side) -> u64
-    ensures { λ r. ⌜ r ≡ sideNumber side ⌝ }
-{
-    match side {
-        Side::Old => 0,
-        Side::New => 1,
-    }
-}
+ghost use Rattle.exports.specs.Calls.{Told, Read, Wrote, Asked, Fed, Took};
 
 #[no_mangle]
 pub extern "C" fn reystavem_check(table: &[u8], place: &mut u64) -> u64
@@ -55,7 +22,7 @@ pub extern "C" fn reystavem_check(table: &[u8], place: &mut u64) -> u64
         }
         Checked::Bad { why, place: node } => {
             *place = node as u64;
-            number(why)
+            numbers::refusal(why)
         }
     }
 }
@@ -87,7 +54,7 @@ pub extern "C" fn reystavem_read(
         } => {
             *place = at as u64;
             *count = made as u64;
-            number(why)
+            numbers::refusal(why)
         }
     }
 }
@@ -110,7 +77,7 @@ pub extern "C" fn reystavem_write(
         }
         WriteAnswer::Refused { why, place: at } => {
             *place = at as u64;
-            number(why)
+            numbers::refusal(why)
         }
     }
 }
@@ -130,7 +97,7 @@ pub extern "C" fn reystavem_append(
         AskAnswer::Says { yes: says } => {
             *place = 0;
             *which = 0;
-            *yes = says as u64;
+            *yes = numbers::yes(says);
             0
         }
         AskAnswer::Refused {
@@ -139,9 +106,9 @@ pub extern "C" fn reystavem_append(
             place: node,
         } => {
             *place = node as u64;
-            *which = side_number(side);
+            *which = numbers::side(side);
             *yes = 0;
-            number(why)
+            numbers::refusal(why)
         }
     }
 }
@@ -162,7 +129,7 @@ pub extern "C" fn reystavem_feed(
     *len = step.len as u64;
     *rest_from = step.used as u64;
     let answer = step.answer;
-    accumulator::number(answer)
+    numbers::feed(answer)
 }
 
 #[no_mangle]
@@ -190,7 +157,7 @@ pub extern "C" fn reystavem_take(
         TakeAnswer::Refused { why, place: _ } => {
             *first = 0;
             *second = 0;
-            number(why)
+            numbers::refusal(why)
         }
     }
 }

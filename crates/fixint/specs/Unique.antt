@@ -14,5 +14,5 @@ abbrev pub OneArray : Type 0
 OneArray = (o : Order) (w : Width) (x : ℕ) → Unique (λ (r : List ℕ). r ≡ inOrder o (littleBytes (size w) x))
 
 -- the decoders
-abbrev pub OneTake : Type 0
-OneTake = (l : Plain) (s : List ℕ) → Unique (λ (r : Item). r ≡ readPlain l s)
+abbrev pub OneFixedTake : Type 0
+OneFixedTake = (l : Plain) (s : List ℕ) → Unique (λ (r : Item). r ≡ readPlain l s)

@@ -1,9 +1,9 @@
--- A reading stays inside its bytes.
+-- A reading by any sound way to read items stays inside its bytes, and wire's own is sound.
 -- Assumes nothing.
 use mathlib.Core.Path.{_≡_, refl, ap, _∙_}
 use mathlib.Core.Bool.{Bool, true, false, not}
 use mathlib.Core.List.{List, [], _∷_, _++_}
-use Prim.Native.Nat.{ℕ, zero, suc, _+_, _-_, _≤_}
+use Prim.Native.Nat.{ℕ, _+_, _-_, _≤_}
 use native.Mathlib.Nat.{add-assoc, add-zero}
 use native.Mathlib.Omega.{arith}
 use lib.ListN.{length, drop, length-drop}
@@ -15,11 +15,14 @@ use Rattle.wire.specs.declared.Item.the-variants.{Took, Refused}
 use Rattle.wire.specs.Tests.{pick}
 use Rattle.wire.specs.Numbers.{most, last, varintF, varint, onFirst, wordOf}
 use Rattle.wire.specs.Shape.{Width, w32, w64, Plain, bool, i8, u8, f32, f64, char, unit, int, fixed, Kind, plain, pooled, option, sequence, map, struct, enum, Shapes}
+use Rattle.wire.specs.Walk.{walk}
 use Rattle.wire.specs.Values.{Entry}
-use Rattle.wire.specs.Reading.{Spot, Run, Outcome, reached, flag, counted, charOf, contentOf, readPlain, known, head, runAfter, readNothing, readOn, readThen, past, enter, readItem, reading, read}
+use Rattle.wire.specs.Reading.{Spot, Run, Outcome, reached, flag, counted, charOf, contentOf, readPlain, known, Head, head, runAfter, readNothing, readOn, readThen, past, enter, readItem, reading}
 use Rattle.laws.specs.Steps.{Every, row}
 use Rattle.laws.specs.Range.{span, InRange}
 use Rattle.laws.proofs.Varints.{in-range}
+use Rattle.laws.proofs.Known.{head-known}
+use Rattle.laws.specs.Heads.{Sound}
 use Rattle.laws.specs.Bounds.{start, Fits, takes, Stays, reaches, ReadsInside, PlacesKept}
 use Rattle.laws.proofs.Walks.{every, every-row}
 
@@ -92,6 +95,10 @@ head-fits map n p s = fits-varint w64 s
 head-fits struct n p s = takes {n = 0} (omega arith)
 head-fits enum n p s = fits-known n (fits-varint w32 s)
 
+pub head-sound : Sound head
+unfolding head
+head-sound = record { inside = head-fits; knows = head-known; bare = λ n p s. refl }
+
 -- ---- a run
 
 pub start-append : (es fs : List Entry) (end : ℕ) → start (es ++ fs) end ≡ start es (start fs end)
@@ -127,27 +134,27 @@ steady-then {f} {g} h k = record { stays = λ x. go x (h .stays x) }
     go x {es} (reaches {z} n l e s) = stays-behind es n l e s (k .stays z)
     go x (Stays.refuses l e s) = Stays.refuses l e s
 
-steady-item : {f : ℕ → Spot → Run} (k : Kind) (n : ℕ) → ((a : ℕ) → Steady (f a)) → Steady (readItem head k n f)
-unfolding readItem enter runAfter start
-steady-item {f} k n h = record { stays = λ x. go x (head-fits k n (x .place) (x .bytes)) }
-  where
-    go : (x : Spot) {i : Item} → Fits (x .bytes) i → Stays x (enter i f x .made) (enter i f x .ends)
-    go x Fits.refuses = Stays.refuses {p = x .place} (omega arith) (omega arith) refl
-    go x (takes {a} {b} {n = u} l) =
-        stays-behind (record { first = a; second = b; place = x .place } ∷ []) u l refl refl (h a .stays (past u x))
+module _ {h : Head} (sound : Sound h) where
+  steady-item : {f : ℕ → Spot → Run} (k : Kind) (n : ℕ) → ((a : ℕ) → Steady (f a)) → Steady (readItem h k n f)
+  unfolding readItem enter runAfter start
+  steady-item {f} k n r = record { stays = λ x. go x (sound .inside k n (x .place) (x .bytes)) }
+    where
+      go : (x : Spot) {i : Item} → Fits (x .bytes) i → Stays x (enter i f x .made) (enter i f x .ends)
+      go x Fits.refuses = Stays.refuses {p = x .place} (omega arith) (omega arith) refl
+      go x (takes {a} {b} {n = u} l) =
+          stays-behind (record { first = a; second = b; place = x .place } ∷ []) u l refl refl (r a .stays (past u x))
 
-steady : Every (λ (i : Unit {0}). reading head) (λ f. Steady (f tt))
-steady = record { none = steady-nothing; both = steady-then; made = λ f k n. steady-item k n }
+  steady : Every (λ (i : Unit {0}). reading h) (λ f. Steady (f tt))
+  steady = record { none = steady-nothing; both = steady-then; made = λ f k n. steady-item k n }
 
-pub read-stays : ReadsInside
-unfolding read
-read-stays t = every steady t .stays
+  pub read-stays : ReadsInside h
+  read-stays t = every steady t .stays
 
-pub row-stays : (ts : Shapes) (x : Spot) → Stays x (row (reading head) ts x .made) (row (reading head) ts x .ends)
-row-stays ts = every-row steady ts .stays
+  pub row-stays : (ts : Shapes) (x : Spot) → Stays x (row (reading h) ts x .made) (row (reading h) ts x .ends)
+  row-stays ts = every-row steady ts .stays
 
-pub places-kept : PlacesKept
-places-kept t x z e = go (rw e at (read-stays t x))
-  where
-    go : Stays x (read t x .made) (reached z) → z .place + length (z .bytes) ≡ x .place + length (x .bytes)
-    go (reaches n l q s) = rw q (unfold past in omega (arith, length-drop n (x .bytes)))
+  pub places-kept : PlacesKept h
+  places-kept t x z e = go (rw e at (read-stays t x))
+    where
+      go : Stays x (walk (reading h) t x .made) (reached z) → z .place + length (z .bytes) ≡ x .place + length (x .bytes)
+      go (reaches n l q s) = rw q (unfold past in omega (arith, length-drop n (x .bytes)))

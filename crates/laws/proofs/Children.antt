@@ -16,11 +16,11 @@ use Rattle.wire.specs.Shape.{Shape, node, none, more, count}
 use Rattle.wire.specs.Walk.{following, Walk, Step, all, times, nth, along, walk, walks}
 use Rattle.wire.specs.Table.{u16At, Node, nodeAt, shapesAt}
 use Rattle.wire.specs.Append.{isOpen, matches, firsts, isOpenRoot, appends}
-use Rattle.wire.specs.Reading.{Spot, refused, head, readItem, reading, read, fit}
+use Rattle.wire.specs.Reading.{Head, Spot, refused, reading, fit}
 use Rattle.laws.specs.Steps.{row}
 use Rattle.laws.specs.Tables.{nodeKind, nodeFirst, nodeCount, nodeShape, nodeShapes, GoodNode}
 use Rattle.laws.proofs.Splits.{both-right, not-both}
-use Rattle.laws.proofs.Runs.{fit-item, fit-none}
+use Rattle.laws.proofs.Runs.{fit-none}
 use Rattle.laws.proofs.Numbering.{same-number}
 use Rattle.laws.proofs.Tables.{next-place}
 
@@ -91,17 +91,10 @@ unfolding walk
 walk-node w {s} {l} {i} {r} g x =
     ap (λ t. walk w t x) (g .its-shape) ∙ ap (λ n. w .item (nodeKind r) n (λ a. along w (following (nodeKind r) a) (walks w (nodeShapes s l i r))) x) (count-children (nodeShape s l) s (nodeFirst l i r) (nodeCount r))
 
--- reading a node with room for one entry and for so many behind it
-pub read-node : (room : ℕ) {s : List ℕ} {l : Layout} {i : ℕ} {r : Node} → GoodNode s l i r → (x : Spot)
-    → fit (suc room) (read (nodeShape s l i) x)
-    ≡ readItem head (nodeKind r) (nodeCount r)
-    (λ a y. fit room (along (reading head) (following (nodeKind r) a) (walks (reading head) (nodeShapes s l i r)) y)) x
-unfolding read
-read-node room g x = ap (fit (suc room)) (walk-node (reading head) g x) ∙ fit-item head _ _ _ x room
-
-pub read-none : (t : Shape) (x : Spot) → fit 0 (read t x) ≡ record { made = []; ends = refused Room (x .place) }
-unfolding read walk
-read-none (node k ts) x = fit-none head k _ _ x
+-- reading a node wants room before its bytes are looked at
+pub read-none : (h : Head) (t : Shape) (x : Spot) → fit 0 (walk (reading h) t x) ≡ record { made = []; ends = refused Room (x .place) }
+unfolding walk
+read-none h (node k ts) x = fit-none h k _ _ x
 
 -- ---- two nodes
 

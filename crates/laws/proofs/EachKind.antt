@@ -10,7 +10,7 @@ use lib.ListN.{length, getD, take, drop, List·getD-eq-default}
 use lib.Seq.{getD-take, getD-drop}
 use Rattle.wire.specs.Shape.{Plain, Content, unit, Kind, plain, pooled, option, sequence, map, struct, enum}
 use Rattle.wire.specs.Table.{kinds, kindOf}
-use Rattle.laws.specs.KindRanges.{isAlone}
+use Rattle.laws.specs.KindRanges.{isAlone, IsInner}
 use Rattle.laws.proofs.Splits.{by-lt, not-both}
 use Rattle.laws.proofs.KindRanges.{low-alone, high-alone}
 
@@ -53,3 +53,6 @@ module _ (P : Kind → Type 0) (p : (x : Plain) → P (plain x)) (q : (c : Conte
   high-kinds k l =
       by-lt k 32 (λ h. alone (kindOf k) (high-alone k l (omega arith)))
       (λ h. rw (List·getD-eq-default kinds (plain unit) h) (p unit))
+
+  pub outer-kinds : (k : ℕ) → (IsInner k → ⊥) → P (kindOf k)
+  outer-kinds k outer = by-lt k 15 (low-kinds k) (λ h. by-lt 19 k (high-kinds k) (λ g. absurd (outer (h, g))))

@@ -1,16 +1,18 @@
 -- The kinds by ranges of their numbers: 0 to 14 have no children, by one computed test of the list of kinds; 20 to 31 are fixed-size integers, one by one.
 -- Assumes nothing.
 use mathlib.Core.Path.{_≡_, refl, sym}
-use mathlib.Core.Bool.{true}
+use mathlib.Core.Bool.{true, false}
 use Prim.Native.Nat.{ℕ, zero, suc, _+_, _-_, _<_, _≤_}
 use native.Mathlib.Omega.{arith}
 use lib.ListN.{take}
 use lib.Seq.{getD-take}
+use lib.Dec.{leb}
+use borrow.Author.Tests.{leb-true, le-leb}
 use Rattle.wire.specs.Shape.{le, be, unit, Kind, plain, pooled, option, sequence, map, struct, enum}
 use Rattle.wire.specs.Walk.{each, following}
 use Rattle.wire.specs.Table.{kinds, kindOf}
-use Rattle.laws.specs.KindRanges.{isAlone, sixth}
-use Rattle.laws.proofs.Splits.{by-lt, not-both}
+use Rattle.laws.specs.KindRanges.{isAlone, IsInner, isInner, sixth}
+use Rattle.laws.proofs.Splits.{by-test, by-lt, not-both, both-yes, both-left, both-right}
 use Rattle.laws.proofs.Rule.{at}
 
 pub low-alone : (k : ℕ) → k < 15 → isAlone (kindOf k) ≡ true
@@ -36,6 +38,23 @@ big-kind k l h = let e : 26 + (k - 26) ≡ k = omega arith in rw e at (six (k - 
 pub high-alone : (k : ℕ) → 20 ≤ k → k ≤ 31 → isAlone (kindOf k) ≡ true
 unfolding isAlone
 high-alone k l h = by-lt k 26 (λ b. rw (little-kind k l (omega arith))) (λ b. rw (big-kind k b h))
+
+-- ---- the kinds that have children
+
+module _ (k : ℕ) where
+  pub is-inner : isInner k ≡ true → IsInner k
+  unfolding isInner
+  is-inner e = (leb-true 15 k (both-left (leb 15 k) (leb k 19) e), leb-true k 19 (both-right (leb 15 k) (leb k 19) e))
+
+  pub inner-is : IsInner k → true ≡ isInner k
+  unfolding isInner
+  inner-is h = sym (both-yes (leb 15 k) (leb k 19) (le-leb 15 k (h .0)) (le-leb k 19 (h .1)))
+
+  pub not-inner : isInner k ≡ false → IsInner k → ⊥
+  not-inner e h = not-both (sym (inner-is h)) e
+
+  pub inner-not : (IsInner k → ⊥) → false ≡ isInner k
+  inner-not h = by-test (isInner k) (λ e. absurd (h (is-inner e))) sym
 
 -- ---- nothing follows
 

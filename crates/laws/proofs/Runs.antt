@@ -5,7 +5,7 @@ use mathlib.Core.List.{List, [], _∷_, _++_, append-nil, append-assoc}
 use Prim.Native.Nat.{ℕ, zero, suc, _+_, _-_, _≤_, _<_}
 use native.Mathlib.Nat.{sub-zero, not-suc-le-zero}
 use native.Mathlib.Omega.{arith}
-use lib.ListN.{length, length-append}
+use lib.ListN.{length}
 use Rattle.wire.specs.declared.Refusal.{Refusal}
 use Rattle.wire.specs.declared.Refusal.the-variants.{Room}
 use Rattle.wire.specs.declared.Item.{Item}
@@ -15,10 +15,6 @@ use Rattle.wire.specs.Values.{Entry}
 use Rattle.wire.specs.Reading.{Head, Spot, Run, Outcome, reached, refused, runAfter, readNothing, readOn, readThen, enter, readItem, within, fit}
 
 -- ---- without a bound
-
-pub behind-behind : (es fs : List Entry) (r : Run) → runAfter es (runAfter fs r) ≡ runAfter (es ++ fs) r
-unfolding runAfter
-behind-behind es fs r = rw (append-assoc es fs (r .made))
 
 on-behind : (es : List Entry) (r : Run) (g : Spot → Run) → readOn (es ++ r .made) (r .ends) g ≡ runAfter es (readOn (r .made) (r .ends) g)
 on-behind es r g = go (r .made) (r .ends)
@@ -38,9 +34,6 @@ unfolding readThen
 then-nothing f x = on-nothing (f x .made) (f x .ends)
 
 -- ---- with room
-
-less : (a b c : ℕ) → a - b - c ≡ a - (b + c)
-less a b c = omega arith
 
 left : (a b : ℕ) → suc a - suc b ≡ a - b
 left a b = omega arith
@@ -62,18 +55,6 @@ pub fit-then : (room : ℕ) (f g : Spot → Run) (x : Spot)
     → fit room (readThen f g x) ≡ readOn (fit room (f x) .made) (fit room (f x) .ends) (λ y. fit (room - length (fit room (f x) .made)) (g y))
 unfolding readThen
 fit-then room f g x = unfold fit in fit-on room (f x .made) (f x .ends) g
-
--- a loop's step, behind the entries that were made before
-module _ (room : ℕ) (es : List Entry) (f g : Spot → Run) (x : Spot) where
-  pub step-reached : (fs : List Entry) (y : Spot) → fit (room - length es) (f x) ≡ record { made = fs; ends = reached y }
-      → runAfter es (fit (room - length es) (readThen f g x)) ≡ runAfter (es ++ fs) (fit (room - length (es ++ fs)) (g y))
-  unfolding readOn
-  step-reached fs y e = rw (fit-then, e, behind-behind, length-append es fs, ← less room (length es) (length fs))
-
-  pub step-refused : (fs : List Entry) (r : Refusal) (p : ℕ) → fit (room - length es) (f x) ≡ record { made = fs; ends = refused r p }
-      → runAfter es (fit (room - length es) (readThen f g x)) ≡ record { made = es ++ fs; ends = refused r p }
-  unfolding readOn runAfter
-  step-refused fs r p e = rw (fit-then, e)
 
 module _ (h : Head) (k : Kind) (n : ℕ) (next : ℕ → Spot → Run) (x : Spot) where
   -- an item wants room before its bytes are looked at

@@ -1,6 +1,6 @@
--- A table whose check is good has every node good, and its shape no longer depends on the count that its definition recurses on.
+-- A table whose check is good has every node good, and its shape no longer depends on the count that its definition recurses on; a chain of children goes down in number at each.
 -- Assumes nothing.
-use mathlib.Core.Path.{_≡_, refl, ap, ap₂}
+use mathlib.Core.Path.{_≡_, refl, ap, ap₂, _∙_}
 use mathlib.Core.Bool.{Bool, true, false, false≢true}
 use mathlib.Core.List.{List}
 use Prim.Native.Nat.{ℕ, zero, suc, _+_, _-_, _*_, _/_, _%_, _≤_, _<_}
@@ -13,9 +13,9 @@ use Rattle.wire.specs.declared.Refusal.{Refusal}
 use Rattle.wire.specs.declared.Layout.{Layout}
 use Rattle.wire.specs.declared.Checked.the-variants.{Good, Bad}
 use Rattle.wire.specs.Tests.{given, both}
-use Rattle.wire.specs.Shape.{Kind, plain, pooled, option, sequence, map, struct, enum, Shape, node, more}
+use Rattle.wire.specs.Shape.{Kind, plain, pooled, option, sequence, map, struct, enum, Shape, node, more, depth, deepest}
 use Rattle.wire.specs.Table.{u16At, layoutAt, goodNumbers, goodTrailer, isKind, Node, nodeAt, recordOf, firstChild, childCount, below, goodPlaces, goodKind, goodNode, checkFrom, checkAt, check, shapesAt, shapeBy, shapeF, shapeOf}
-use Rattle.laws.specs.Tables.{nodeKind, nodeFirst, nodeCount, nodeShape, GoodNode, GoodTable}
+use Rattle.laws.specs.Tables.{nodeKind, nodeFirst, nodeCount, nodeChild, nodeShape, GoodNode, GoodTable, Limits}
 use Rattle.laws.proofs.Splits.{by-eq, both-left, both-right}
 
 both-true : {a b : Bool} → both a b ≡ true → (a ≡ true) × (b ≡ true)
@@ -123,7 +123,6 @@ passed s l h =
 record Laid (l : Layout) (end : ℕ) : Type 0 where
   some-nodes : 1 ≤ l .nodes
   few-nodes : l .nodes ≤ 256
-  few-places : l .places ≤ 1024
   root-below : l .root < l .nodes
   records-end : l .records + 6 * l .nodes ≡ l .children
   children-end : l .children + 2 * l .places ≡ end
@@ -139,13 +138,11 @@ numbers-laid c d n root end h =
     let n₂ = leb-true n 256 (both-true (p .0) .1) in
     let t = ltb-true root n (q .0) in
     let c₁ = eqb-true (c % 2) 0 (both-true (r .0) .0) in
-    let c₂ = leb-true c 2048 (both-true (r .0) .1) in
     let d₁ = eqb-true d (6 * n + c) (both-true (r .1) .0) in
     let d₂ = leb-true d end (both-true (r .1) .1) in
     record {
       some-nodes = n₁;
       few-nodes = n₂;
-      few-places = omega arith;
       root-below = t;
       records-end = omega arith;
       children-end = omega arith;
@@ -171,34 +168,88 @@ module _ (l : Layout) (end i : ℕ) (g : Laid l end) (h : i < l .nodes) where
   inside struct a b p = omega (arith, leb-true (a + b) (l .places) (both-right _ _ p))
   inside enum a b p = omega (arith, leb-true (a + b) (l .places) (both-right _ _ p))
 
-pub good-table : (s : List ℕ) (l : Layout) → check s ≡ Good l → GoodTable s l
-good-table s l h = record {
-  some-nodes = laid .some-nodes;
-  few-nodes = laid .few-nodes;
-  few-places = laid .few-places;
-  root-below = laid .root-below;
-  records-end = laid .records-end;
-  children-end = omega (arith, laid .children-end, leb-true 10 (length s) (p .long));
-  node-good = λ i b. at i b (tests i b);
-  its-shape = unfold shapeOf nodeShape in count-same s l (l .nodes) tests (l .nodes) (suc (l .root)) (l .root) (laid .root-below) (omega arith) (laid .root-below);
-}
-  where
-    p : Passed s l
-    p = passed s l h
+-- ---- chains of children
 
-    laid : Laid l (length s - 10)
-    laid = rw (p .laid) at (trailer-laid s (length s - 10) (p .trailer))
+deepest-within : (f : ℕ → Shape) (s : List ℕ) (most from n : ℕ) → ((c : ℕ) → c < n → depth (f (u16At s (from + 2 * c))) ≤ most) → deepest (shapesAt f s from n) ≤ most
+unfolding shapesAt deepest
+deepest-within f s most from zero h = omega arith
+deepest-within f s most from (suc n) h =
+    let one : depth (f (u16At s from)) ≤ most = rw (add-zero from) at (h 0 (omega arith)) in
+    let others = deepest-within f s most (from + 2) n (λ c b. rw (← next-place from c) (h (suc c) (omega arith))) in
+    omega arith
 
-    tests : (i : ℕ) → i < l .nodes → Tested s l i (nodeAt s (recordOf l i))
-    tests i b = tested s l i (nodeAt s (recordOf l i)) (p .nodes i b)
+deepest-at : (f : ℕ → Shape) (s : List ℕ) (from n c : ℕ) → c < n → depth (f (u16At s (from + 2 * c))) ≤ deepest (shapesAt f s from n)
+unfolding shapesAt deepest
+deepest-at f s from zero c b = absurd (not-suc-le-zero b)
+deepest-at f s from (suc n) zero b = rw (add-zero from) (omega arith)
+deepest-at f s from (suc n) (suc c) b = rw (next-place from c) (let e = deepest-at f s (from + 2) n c (omega arith) in omega arith)
 
-    at : (i : ℕ) → i < l .nodes → Tested s l i (nodeAt s (recordOf l i)) → GoodNode s l i (nodeAt s (recordOf l i))
-    at i b t = record {
-      is-kind = t .is-kind;
-      zeroed = t .zeroed;
-      places = t .places;
-      record-inside = record-in l (length s - 10) i laid b;
-      children-inside = inside l (length s - 10) i laid b _ _ _ (t .places);
-      children-below = below-at s i _ _ (t .smaller);
-      its-shape = unfold shapeBy in node-shape s l (l .nodes) tests i b;
-    }
+module _ {s : List ℕ} {l : Layout} (goods : (i : ℕ) → i < l .nodes → GoodNode s l i (nodeAt s (recordOf l i))) where
+  depth-up-to : (n i : ℕ) → i < n → i < l .nodes → depth (nodeShape s l i) ≤ suc i
+  unfolding depth
+  depth-up-to zero i h b = absurd (not-suc-le-zero h)
+  depth-up-to (suc n) i h b =
+      let g = goods i b in
+      let r = nodeAt s (recordOf l i) in
+      let children : (c : ℕ) → c < nodeCount r → depth (nodeShape s l (nodeChild s l i r c)) ≤ i =
+      λ c k. let e = g .children-below c k in omega (arith, depth-up-to n (nodeChild s l i r c) (omega arith) (omega arith)) in
+      rw (g .its-shape) (omega (arith, deepest-within (nodeShape s l) s i (nodeFirst l i r) (nodeCount r) children))
+
+  -- a node's chain is at most as long as there are nodes up to it, since children are below their nodes
+  pub depth-within : (i : ℕ) → i < l .nodes → depth (nodeShape s l i) ≤ suc i
+  depth-within i b = depth-up-to (suc i) i (omega arith) b
+
+-- a child's chain is shorter than its node's
+pub child-shorter : {s : List ℕ} {l : Layout} → GoodTable s l → {i : ℕ} → i < l .nodes → (c : ℕ) → c < nodeCount (nodeAt s (recordOf l i))
+    → depth (nodeShape s l (nodeChild s l i (nodeAt s (recordOf l i)) c)) < depth (nodeShape s l i)
+unfolding depth
+child-shorter {s} {l} g {i} b c k =
+    let r = nodeAt s (recordOf l i) in
+    rw (g .node-good i b .its-shape) (omega (arith, deepest-at (nodeShape s l) s (nodeFirst l i r) (nodeCount r) c k))
+
+-- ---- what a good check tells
+
+module _ (s : List ℕ) (l : Layout) (h : check s ≡ Good l) where
+  p : Passed s l
+  p = passed s l h
+
+  laid : Laid l (length s - 10)
+  laid = rw (p .laid) at (trailer-laid s (length s - 10) (p .trailer))
+
+  tests : (i : ℕ) → i < l .nodes → Tested s l i (nodeAt s (recordOf l i))
+  tests i b = tested s l i (nodeAt s (recordOf l i)) (p .nodes i b)
+
+  at : (i : ℕ) → i < l .nodes → Tested s l i (nodeAt s (recordOf l i)) → GoodNode s l i (nodeAt s (recordOf l i))
+  at i b t = record {
+    is-kind = t .is-kind;
+    zeroed = t .zeroed;
+    places = t .places;
+    record-inside = record-in l (length s - 10) i laid b;
+    children-inside = inside l (length s - 10) i laid b _ _ _ (t .places);
+    children-below = below-at s i _ _ (t .smaller);
+    its-shape = unfold shapeBy in node-shape s l (l .nodes) tests i b;
+  }
+
+  root : u16At s (length s - 4) ≡ l .root
+  unfolding layoutAt
+  root =
+      let long = leb-true 10 (length s) (p .long) in
+      let here : length s - 4 ≡ length s - 10 + 6 = omega arith in
+      ap (u16At s) here ∙ ap (λ m. m .root) (p .laid)
+
+  pub good-table : GoodTable s l
+  good-table =
+      let goods : (i : ℕ) → i < l .nodes → GoodNode s l i (nodeAt s (recordOf l i)) = λ i b. at i b (tests i b) in
+      record {
+        some-nodes = laid .some-nodes;
+        root-below = laid .root-below;
+        records-end = laid .records-end;
+        children-end = omega (arith, laid .children-end, leb-true 10 (length s) (p .long));
+        root-stands = root;
+        node-good = goods;
+        its-shape = unfold shapeOf nodeShape in count-same s l (l .nodes) tests (l .nodes) (suc (l .root)) (l .root) (laid .root-below) (omega arith) (laid .root-below);
+        short-chains = λ i b. omega (arith, laid .few-nodes, depth-within goods i b);
+      }
+
+  pub within-limits : Limits l
+  within-limits = record { few-nodes = laid .few-nodes }

@@ -8,8 +8,9 @@ use Rattle.wire.specs.declared.Refusal.{Refusal}
 use Rattle.wire.specs.declared.Item.{Item}
 use Rattle.wire.specs.declared.Item.the-variants.{Took, Refused}
 use Rattle.wire.specs.Shape.{Shape}
+use Rattle.wire.specs.Walk.{walk}
 use Rattle.wire.specs.Values.{Entry}
-use Rattle.wire.specs.Reading.{Spot, Outcome, reached, refused, past, read}
+use Rattle.wire.specs.Reading.{Head, Spot, Outcome, reached, refused, past, reading}
 
 -- the place where entries begin, or else the place behind all of them
 unfoldable pub start : List Entry → (end : ℕ) → ℕ
@@ -26,9 +27,9 @@ pub data Stays (x : Spot) (es : List Entry) : Outcome → Type 0 where
   reaches : {z : Spot} (n : ℕ) → n ≤ length (x .bytes) → z ≡ past n x → start es (z .place) ≡ x .place → Stays x es (reached z)
   refuses : {e : Refusal} {p : ℕ} → x .place ≤ p → p ≤ x .place + length (x .bytes) → start es p ≡ x .place → Stays x es (refused e p)
 
-abbrev pub ReadsInside : Type 0
-ReadsInside = (t : Shape) (x : Spot) → Stays x (read t x .made) (read t x .ends)
+abbrev pub ReadsInside : Head → Type 0
+ReadsInside h = (t : Shape) (x : Spot) → Stays x (walk (reading h) t x .made) (walk (reading h) t x .ends)
 
 -- the place and the number of bytes from there on add up to the same at every spot
-abbrev pub PlacesKept : Type 0
-PlacesKept = (t : Shape) (x z : Spot) → read t x .ends ≡ reached z → z .place + length (z .bytes) ≡ x .place + length (x .bytes)
+abbrev pub PlacesKept : Head → Type 0
+PlacesKept h = (t : Shape) (x z : Spot) → walk (reading h) t x .ends ≡ reached z → z .place + length (z .bytes) ≡ x .place + length (x .bytes)

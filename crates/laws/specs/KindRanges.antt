@@ -1,7 +1,10 @@
 -- The kinds that the code matches by ranges of their numbers.
 -- Assumes nothing.
 use mathlib.Core.Bool.{Bool, true, false}
-use Prim.Native.Nat.{ℕ, zero, suc}
+use Prim.Native.Nat.{ℕ, zero, suc, _≤_, _<_}
+use lib.Dec.{leb}
+use Rattle.wire.specs.Tests.{both}
+use Rattle.wire.specs.Table.{isKind, kindOf}
 use Rattle.wire.specs.Shape.{w16, w32, w64, Order, signed, unsigned, Plain, fixed, Kind, plain, pooled, option, sequence, map, struct, enum}
 
 -- no children, so no other item, follow an item of it
@@ -13,6 +16,21 @@ isAlone sequence = false
 isAlone map = false
 isAlone struct = false
 isAlone enum = false
+
+-- the number of a kind that has children, as a fact and as a test
+abbrev pub IsInner : ℕ → Type 0
+IsInner k = (15 ≤ k) × (k ≤ 19)
+
+unfoldable pub isInner : ℕ → Bool
+isInner k = both (leb 15 k) (leb k 19)
+
+-- the number of a kind that has none, as a fact and as a test
+pub record IsLeaf (k : ℕ) : Type 0 where
+  pub small : k < 32
+  pub outer : IsInner k → ⊥
+
+unfoldable pub isLeaf : ℕ → Bool
+isLeaf k = both (isKind k) (isAlone (kindOf k))
 
 -- the fixed-size integers of one order, as their kinds' numbers go
 unfoldable pub sixth : Order → ℕ → Plain

@@ -3,13 +3,13 @@
 use mathlib.Core.Path.{_≡_}
 use mathlib.Core.Bool.{true}
 use mathlib.Core.List.{List}
-use Prim.Native.Nat.{ℕ, suc, _+_, _*_, _≤_, _<_}
+use Prim.Native.Nat.{ℕ, suc, _+_, _-_, _*_, _≤_, _<_}
 use lib.ListN.{length}
 use Rattle.wire.specs.declared.Layout.{Layout}
-use Rattle.wire.specs.Shape.{Kind, Shape, node, Shapes}
+use Rattle.wire.specs.Shape.{Kind, Shape, node, Shapes, depth}
 use Rattle.wire.specs.Table.{u16At, isKind, kindOf, Node, nodeAt, recordOf, firstChild, childCount, goodPlaces, shapesAt, shapeF, shapeOf}
 
--- a node's kind, where its children's numbers begin, and how many there are
+-- a node's kind, where its children's numbers begin, how many there are, and each of them
 abbrev pub nodeKind : Node → Kind
 nodeKind r = kindOf (r .number)
 
@@ -18,6 +18,9 @@ nodeFirst l i r = firstChild l i (nodeKind r) (r .a)
 
 abbrev pub nodeCount : Node → ℕ
 nodeCount r = childCount (nodeKind r) (r .b)
+
+abbrev pub nodeChild : List ℕ → Layout → ℕ → Node → ℕ → ℕ
+nodeChild s l i r c = u16At s (nodeFirst l i r + 2 * c)
 
 -- the shape of the node i, and its children's
 unfoldable pub nodeShape : List ℕ → Layout → ℕ → Shape
@@ -33,16 +36,20 @@ pub record GoodNode (s : List ℕ) (l : Layout) (i : ℕ) (r : Node) : Type 0 wh
   pub places : goodPlaces l (nodeKind r) (r .a) (r .b) ≡ true
   pub record-inside : recordOf l i + 6 ≤ l .children
   pub children-inside : nodeFirst l i r + 2 * nodeCount r ≤ l .children + 2 * l .places
-  pub children-below : (c : ℕ) → c < nodeCount r → u16At s (nodeFirst l i r + 2 * c) < i
+  pub children-below : (c : ℕ) → c < nodeCount r → nodeChild s l i r c < i
   pub its-shape : nodeShape s l i ≡ node (nodeKind r) (nodeShapes s l i r)
 
--- the records, the child list and the trailer stand one after the other, up to the table's end
+-- the records, the child list and the trailer stand one after the other, with the root's number 4 bytes before the table's end; no chain of children is longer than 256
 pub record GoodTable (s : List ℕ) (l : Layout) : Type 0 where
   pub some-nodes : 1 ≤ l .nodes
-  pub few-nodes : l .nodes ≤ 256
-  pub few-places : l .places ≤ 1024
   pub root-below : l .root < l .nodes
   pub records-end : l .records + 6 * l .nodes ≡ l .children
-  pub children-end : l .children + 2 * l .places + 10 ≡ length s
+  pub children-end : l .children + 2 * l .places + 4 ≤ length s
+  pub root-stands : u16At s (length s - 4) ≡ l .root
   pub node-good : (i : ℕ) → i < l .nodes → GoodNode s l i (nodeAt s (recordOf l i))
   pub its-shape : shapeOf s l ≡ nodeShape s l (l .root)
+  pub short-chains : (i : ℕ) → i < l .nodes → depth (nodeShape s l i) ≤ 256
+
+-- what its trailer allows, for code that keeps something for each node
+pub record Limits (l : Layout) : Type 0 where
+  pub few-nodes : l .nodes ≤ 256

@@ -18,14 +18,14 @@ use Rattle.wire.specs.Table.{kinds, isKind, kindOf}
 use Rattle.wire.specs.Values.{isPooled}
 use Rattle.wire.specs.Reading.{readPlain, head}
 use Rattle.laws.specs.Bounds.{Fits, takes}
-use Rattle.laws.specs.KindRanges.{isAlone, sixth}
+use Rattle.laws.specs.KindRanges.{isAlone, isLeaf, sixth}
 use Rattle.laws.proofs.Splits.{by-eq}
 use Rattle.laws.proofs.Rule.{at}
 use Rattle.laws.proofs.Bounds.{head-fits}
 use Rattle.laws.proofs.KindRanges.{low-alone, high-alone}
 use Rattle.laws.proofs.Offsets.{pooled-ends}
 use Rattle.utf8.specs.Contents.{contentIf}
-use Rattle.leaf.specs.Leaves.{isLeaf, takeAt, Within}
+use Rattle.leaf.specs.Leaves.{takeAt, Within}
 
 -- to unfold this is to compute a kind from its number
 unfoldable pub numbered : ℕ

@@ -1,6 +1,5 @@
 -- The item of a kind without children, by the kind's number.
 -- Assumes nothing.
-use mathlib.Core.Bool.{Bool}
 use mathlib.Core.List.{List}
 use Prim.Native.Nat.{ℕ, _+_, _<_, _^_}
 use lib.ListN.{length}
@@ -8,14 +7,10 @@ use lib.Dec.{ltb}
 use Rattle.wire.specs.declared.Refusal.the-variants.{End, Record}
 use Rattle.wire.specs.declared.Item.{Item}
 use Rattle.wire.specs.declared.Item.the-variants.{Took, Refused}
-use Rattle.wire.specs.Tests.{pick, both}
-use Rattle.wire.specs.Table.{isKind, kindOf}
+use Rattle.wire.specs.Tests.{pick}
+use Rattle.wire.specs.Table.{kindOf}
 use Rattle.wire.specs.Reading.{head}
-use Rattle.laws.specs.KindRanges.{isAlone}
-
--- the number of a kind that has no children
-unfoldable pub isLeaf : ℕ → Bool
-isLeaf k = both (isKind k) (isAlone (kindOf k))
+use Rattle.laws.specs.KindRanges.{isLeaf}
 
 -- the item at the place p, where the bytes s are, if every place of them is a word
 unfoldable pub takeAt : ℕ → ℕ → List ℕ → Item

@@ -14,11 +14,11 @@ use Rattle.leaf.specs.Leaves.{takeAt}
 abbrev pub OneFlag : Type 0
 OneFlag = (e : Refusal) (s : List ℕ) → Unique (λ (r : Item). r ≡ flag e s)
 
-abbrev pub OneTake : Type 0
-OneTake = (k p : ℕ) (s : List ℕ) → Unique (λ (r : Item). r ≡ takeAt k p s)
+abbrev pub OneLeafTake : Type 0
+OneLeafTake = (k p : ℕ) (s : List ℕ) → Unique (λ (r : Item). r ≡ takeAt k p s)
 
-abbrev pub OneUnzigzag : Type 0
-OneUnzigzag = (i : Item) → Unique (λ (r : Item). r ≡ onFirst (unzigzagged signed) i)
+abbrev pub OneLeafUnzigzag : Type 0
+OneLeafUnzigzag = (i : Item) → Unique (λ (r : Item). r ≡ onFirst (unzigzagged signed) i)
 
 abbrev pub OneAnew : Type 0
 OneAnew = (i : Item) → Unique (λ (r : Item). r ≡ i)

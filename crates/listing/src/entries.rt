@@ -12,10 +12,11 @@ use say::say_with;
 use wire::Checked;
 use wire::Layout;
 use wire::ReadAnswer;
-ghost use Prim.Native.Nat.{_+_, _*_, _≤_, _<_};
-ghost use lib.ListN.{length};
+ghost use Prim.Native.Nat.{_+_, _≤_, _<_};
+ghost use Rattle.wire.specs.Shape.{depth as depthOf};
 ghost use Rattle.wire.specs.Table.{nodeAt, recordOf};
-ghost use Rattle.laws.specs.Tables.{nodeCount, GoodTable};
+ghost use Rattle.wire.specs.Answers.{roomOf};
+ghost use Rattle.laws.specs.Tables.{nodeCount, nodeShape, GoodTable};
 
 // What follows an item: rounds over the children from one position up to another.
 struct Span {
@@ -68,14 +69,14 @@ fn show_item(
     at: usize,
 ) -> usize
     requires { ⌜ GoodTable (now table) l ⌝ }
-    requires { ⌜ (node < l .nodes) × (depth + node ≤ 256) ⌝ }
-    requires { ⌜ (at < count) × (2 * count ≤ length (now words)) ⌝ }
+    requires { ⌜ (node < l .nodes) × (depth + depthOf (nodeShape (now table) l node) ≤ 256) ⌝ }
+    requires { ⌜ (at < count) × (count ≤ roomOf (now words)) ⌝ }
     ensures { λ r. ⌜ r ≤ count ⌝ }
 {
     let number = table::kind_at(table, l, node);
     let width = table::child_count(table, l, node);
-    let first = words[2 * at];
-    let second = words[2 * at + 1];
+    let first = entry::first(words, at);
+    let second = entry::second(words, at);
     say_kind(number);
     say_value(number, width, first, second, message);
     say(b"\n");
@@ -105,9 +106,9 @@ fn show_rounds(
     at: usize,
 ) -> usize
     requires { ⌜ GoodTable (now table) l ⌝ }
-    requires { ⌜ (node < l .nodes) × (depth + node ≤ 257) ⌝ }
+    requires { ⌜ (node < l .nodes) × (depth + depthOf (nodeShape (now table) l node) ≤ 257) ⌝ }
     requires { ⌜ way .to ≤ nodeCount (nodeAt (now table) (recordOf l node)) ⌝ }
-    requires { ⌜ (at ≤ count) × (2 * count ≤ length (now words)) ⌝ }
+    requires { ⌜ (at ≤ count) × (count ≤ roomOf (now words)) ⌝ }
     ensures { λ r. ⌜ r ≤ count ⌝ }
 {
     let mut next = at;
@@ -148,9 +149,9 @@ fn show_round(
     at: usize,
 ) -> usize
     requires { ⌜ GoodTable (now table) l ⌝ }
-    requires { ⌜ (node < l .nodes) × (depth + node ≤ 257) ⌝ }
+    requires { ⌜ (node < l .nodes) × (depth + depthOf (nodeShape (now table) l node) ≤ 257) ⌝ }
     requires { ⌜ to ≤ nodeCount (nodeAt (now table) (recordOf l node)) ⌝ }
-    requires { ⌜ (at ≤ count) × (2 * count ≤ length (now words)) ⌝ }
+    requires { ⌜ (at ≤ count) × (count ≤ roomOf (now words)) ⌝ }
     ensures { λ r. ⌜ r ≤ count ⌝ }
 {
     let number = table::kind_at(table, l, node);
@@ -175,7 +176,7 @@ fn show_entries(table: &[u8], l: Layout, words: &[u64], count: usize, message: &
     requires { ⌜ GoodTable (now table) l ⌝ }
 {
     if 0 < count {
-        if count <= words.len() / 2 {
+        if count <= entry::room(words.len()) {
             let root = l.root;
             say(b"root: ");
             show_item(table, l, root, 0, words, count, message, 0);

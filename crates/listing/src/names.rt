@@ -18,7 +18,7 @@ pub fn say_kind(number: u8) {
 fn name_of(number: u8, k: u64) -> usize {
     match number {
         17 => (k % 2 * 3 + 2) as usize,
-        15..=19 => (number - 15) as usize,
+        15 | 16 | 18 | 19 => (number - 15) as usize,
         _ => 6,
     }
 }

@@ -12,8 +12,9 @@ use wire::Refusal;
 ghost use mathlib.Core.Path.{_≡_};
 ghost use Prim.Native.Nat.{_+_, _≤_, _<_};
 ghost use lib.ListN.{length};
+ghost use Rattle.wire.specs.Shape.{depth as depthOf};
 ghost use Rattle.wire.specs.Table.{nodeAt, recordOf};
-ghost use Rattle.laws.specs.Tables.{nodeCount, GoodTable};
+ghost use Rattle.laws.specs.Tables.{nodeCount, nodeShape, GoodTable};
 
 // A table that is not good: why, and where.
 pub fn say_bad(why: Refusal, place: usize) {
@@ -55,7 +56,8 @@ fn is_new(seen: &mut [u8], node: usize) -> bool
 // A node and what is below it; what was shown before isn't shown again, since a shape may be much larger than its table.
 fn show_node(table: &[u8], l: Layout, node: usize, depth: usize, seen: &mut [u8])
     requires { ⌜ GoodTable (now table) l ⌝ }
-    requires { ⌜ (node < l .nodes) × (depth + node ≤ 256) × (length (now seen) ≡ 256) ⌝ }
+    requires { ⌜ (node < l .nodes) × (l .nodes ≤ length (now seen)) ⌝ }
+    requires { ⌜ depth + depthOf (nodeShape (now table) l node) ≤ 256 ⌝ }
 {
     say_node(table, l, node);
     let width = table::child_count(table, l, node);
@@ -71,7 +73,8 @@ fn show_node(table: &[u8], l: Layout, node: usize, depth: usize, seen: &mut [u8]
 
 fn show_children(table: &[u8], l: Layout, node: usize, width: usize, depth: usize, seen: &mut [u8])
     requires { ⌜ GoodTable (now table) l ⌝ }
-    requires { ⌜ (node < l .nodes) × (depth + node ≤ 257) × (length (now seen) ≡ 256) ⌝ }
+    requires { ⌜ (node < l .nodes) × (l .nodes ≤ length (now seen)) ⌝ }
+    requires { ⌜ depth + depthOf (nodeShape (now table) l node) ≤ 257 ⌝ }
     requires { ⌜ width ≡ nodeCount (nodeAt (now table) (recordOf l node)) ⌝ }
 {
     let number = table::kind_at(table, l, node);

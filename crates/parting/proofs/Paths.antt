@@ -7,13 +7,14 @@ use native.Mathlib.Omega.{arith}
 use lib.ListN.{length, set, length-append}
 use lib.Seq.{sets}
 use Rattle.wire.specs.declared.Layout.{Layout}
-use Rattle.laws.specs.Tables.{GoodTable}
+use Rattle.laws.specs.Tables.{nodeShape, GoodTable}
 use Rattle.laws.proofs.Parts.{sets-append}
 use Rattle.parting.specs.declared.Next.{Next}
 use Rattle.parting.specs.declared.Next.the-variants.{Here, Down}
 use Rattle.parting.specs.Pairs.{partingAt, Leads, Follows, Stored}
+use Rattle.parting.proofs.Steps.{few-positions}
 
--- where the way stands: the positions passed are in front of those that follow from the pair, and are stored
+-- where the way stands: the positions passed are in front of those that follow from the pair, and are stored; with those there is room for all
 pub record Gone (s : List ℕ) (l : Layout) (t : List ℕ) (m : Layout) (path now : List ℕ) (i j depth : ℕ) : Type 0 where
   pub front : List ℕ
   pub deep : depth ≡ length front
@@ -21,17 +22,17 @@ pub record Gone (s : List ℕ) (l : Layout) (t : List ℕ) (m : Layout) (path no
   pub stored : now ≡ sets path 0 front
   pub left : i < l .nodes
   pub right : j < m .nodes
-  pub room : depth + i < 256
+  pub room : depth + length (partingAt s l i t m j) < 256
 
 pub gone-start : {s t : List ℕ} {l m : Layout} (path : List ℕ) → GoodTable s l → GoodTable t m → Gone s l t m path path (l .root) (m .root) 0
-gone-start path old new = record {
+gone-start {t} {m} path old new = record {
   front = [];
   deep = refl;
   whole = refl;
   stored = refl;
   left = old .root-below;
   right = new .root-below;
-  room = omega (arith, old .few-nodes, old .root-below);
+  room = omega (arith, few-positions old (nodeShape t m (m .root)));
 }
 
 one-more : (p : List ℕ) (c : ℕ) → length (p ++ c ∷ []) ≡ suc (length p)
@@ -54,7 +55,7 @@ module _ {s t : List ℕ} {l m : Layout} {path now : List ℕ} {i j depth : ℕ}
     stored = rw (here .stored) (next-word (here .front) path c depth (here .deep));
     left = omega (arith, here .left, leads .lower);
     right = omega (arith, here .right, leads .below);
-    room = omega (arith, here .room, leads .lower);
+    room = omega (arith, here .room, ap length (leads .on));
   }
 
   pub gone-all : r ≡ Here → Stored (partingAt s l (l .root) t m (m .root)) path depth now

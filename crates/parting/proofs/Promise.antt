@@ -17,13 +17,12 @@ use Rattle.wire.specs.declared.AskAnswer.the-variants.{Says}
 use Rattle.wire.specs.Table.{check, shapeOf}
 use Rattle.wire.specs.Append.{appends}
 use Rattle.wire.specs.Answers.{askBy, asks}
-use Rattle.laws.specs.Tables.{GoodTable}
 use Rattle.laws.proofs.Tables.{good-table}
 use Rattle.parting.specs.declared.Parting.the-variants.{Appends, Apart, Refused}
 use Rattle.parting.specs.Parting.{parting, partingBy, Parted, partedBy, parted}
 use Rattle.parting.specs.Pairs.{partingAt, Stored}
 use Rattle.parting.specs.Promise.{Parts, OneParting, PartAt, PartsThere, FirstWords}
-use Rattle.parting.proofs.Steps.{short-way}
+use Rattle.parting.proofs.Steps.{few-positions}
 use Rattle.parting.proofs.Ways.{roots-lead}
 
 pub one-parting : OneParting
@@ -61,11 +60,6 @@ module _ (old new : List ℕ) {l m : Layout} (goodOld : check old ≡ Good l) (g
 
 -- ---- what the positions lead to
 
-few-positions : {old new : List ℕ} {l m : Layout} → GoodTable old l → GoodTable new m → length (parting (shapeOf old l) (shapeOf new m)) < 256
-few-positions {l} {m} a b =
-    let short = short-way a b (l .nodes) (l .root) (m .root) (a .root-below) (a .root-below) (b .root-below) in
-    rw (a .its-shape, b .its-shape) (omega (arith, a .few-nodes, a .root-below))
-
 -- what an answer tells: its positions are few, and where it is that the tables part, they do
 abbrev Tells : (old new : List ℕ) → Parted → Type 0
 Tells old new w = (length (w .positions) < 256) × ((n : ℕ) → w .answer ≡ Apart n → PartAt old new (w .positions) × (n ≡ length (w .positions)))
@@ -75,7 +69,8 @@ tells-good : (old new : List ℕ) (l m : Layout) → check old ≡ Good l → ch
 unfolding partedBy
 tells-good old new l m a b true h = (omega arith, λ n e. let z : _≡_ {A = ℕ} 0 1 = cc in absurd (omega arith))
 tells-good old new l m a b false h =
-    let few = few-positions (good-table old l a) (good-table new m b) in
+    let good = good-table old l a in
+    let few : length (parting (shapeOf old l) (shapeOf new m)) < 256 = rw (good .its-shape) (few-positions good (shapeOf new m)) in
     (few, λ n e. (record { oldLayout = l; newLayout = m; goodOld = a; goodNew = b; lead = roots-lead _ _ h; few = few }, cc))
 
 tells : (old new : List ℕ) (c d : Checked) → check old ≡ c → check new ≡ d → Tells old new (partedBy (askBy c d old new) (partingBy c d old new))

@@ -3,15 +3,14 @@
 use mathlib.Core.Path.{_≡_, sym, _∙_, ap₂}
 use mathlib.Core.Bool.{Bool, true, false}
 use mathlib.Core.List.{List, [], _∷_}
-use Prim.Native.Nat.{ℕ, zero, suc, _+_, _-_, _<_, _≤_}
-use native.Mathlib.Nat.{not-suc-le-zero}
+use Prim.Native.Nat.{ℕ, suc, _+_, _-_, _<_, _≤_}
 use native.Mathlib.Omega.{arith}
 use lib.ListN.{length}
 use lib.Dec.{eqb}
 use borrow.Author.Tests.{ne-eqb, eq-eqb}
 use Rattle.wire.specs.declared.Layout.{Layout}
 use Rattle.wire.specs.Tests.{pick, given}
-use Rattle.wire.specs.Shape.{Shape}
+use Rattle.wire.specs.Shape.{sameKind, Shape, node, Shapes, none, more, depth, deepest}
 use Rattle.wire.specs.Table.{u16At, Node, nodeAt, recordOf, shapesAt}
 use Rattle.wire.specs.Append.{matches}
 use Rattle.laws.specs.Tables.{nodeFirst, nodeCount, nodeShape, nodeShapes, GoodNode, GoodTable}
@@ -112,26 +111,22 @@ module _ {s t : List ℕ} {l m : Layout} {i j n k from at c p q : ℕ} {is : Boo
 
 -- ---- how far down
 
-module _ (s t : List ℕ) (l m : Layout) (i j : ℕ) (short : (p q : ℕ) → p < i → q < j → length (partingAt s l p t m q) ≤ p) where
-  tail-short : (n k from at c : ℕ) → Falls s from n i → Falls t at k j → length (Tail (nodeShape s l) (nodeShape t m) s t n k from at c) ≤ i
-  unfolding partingOf shapesAt
-  tail-short zero k from at c f g = omega arith
-  tail-short (suc n) zero from at c f g = omega arith
-  tail-short (suc n) (suc k) from at c f g =
-      let p = falls-first f (omega arith) in
-      let q = falls-first g (omega arith) in
-      let e : suc n - 1 ≡ n = omega arith in
-      let d : suc k - 1 ≡ k = omega arith in
-      of-pick (λ (h : Unit {0} → List ℕ). length (h tt) ≤ i) (matches (nodeShape s l (u16At s from)) (nodeShape t m (u16At t at))) _ _
-      (λ _. tail-short n k (from + 2) (at + 2) (c + 1) (rw e at (falls-next f (omega arith))) (rw d at (falls-next g (omega arith))))
-      (λ _. omega (arith, short (u16At s from) (u16At t at) p q))
+-- the way down is shorter than the old shape's longest chain of children
+mutual
+  unfolding parting depth
 
--- the way down has at most as many steps as the old node's number, which falls at each
-module _ {s t : List ℕ} {l m : Layout} (old : GoodTable s l) (new : GoodTable t m) where
-  pub short-way : (n i j : ℕ) → i < n → i < l .nodes → j < m .nodes → length (partingAt s l i t m j) ≤ i
-  short-way zero i j h a b = absurd (not-suc-le-zero h)
-  short-way (suc n) i j h a b =
-      rw (parting-nodes (old .node-good i a) (new .node-good j b))
-      (of-given (λ p. length p ≤ i) _ _ _
-      (λ _. tail-short s t l m i j (λ p q x y. short-way n p q (omega arith) (omega arith) (omega arith)) _ _ _ _ 0 (node-falls old a) (node-falls new b))
-      (λ _. omega arith))
+  pub short-way : (s t : Shape) → length (parting s t) < depth s
+  short-way (node k ss) (node l ts) =
+      of-given (λ p. length p < suc (deepest ss)) (sameKind k l) (λ _. partingOf 0 ss ts) [] (λ _. omega (arith, short-ways 0 ss ts)) (λ _. omega arith)
+
+  short-ways : (c : ℕ) (ss ts : Shapes) → length (partingOf c ss ts) ≤ deepest ss
+  short-ways c none ts = omega arith
+  short-ways c (more s ss) none = omega arith
+  short-ways c (more s ss) (more t ts) =
+      of-pick (λ (f : Unit {0} → List ℕ). length (f tt) ≤ deepest (more s ss)) (matches s t) _ _
+      (λ _. omega (arith, short-ways (c + 1) ss ts))
+      (λ _. omega (arith, short-way s t))
+
+-- so that from a good table's root it has fewer positions than a path has room for
+pub few-positions : {s : List ℕ} {l : Layout} → GoodTable s l → (t : Shape) → length (parting (nodeShape s l (l .root)) t) < 256
+few-positions {s} {l} good t = omega (arith, short-way (nodeShape s l (l .root)) t, good .short-chains (l .root) (good .root-below))

@@ -6,7 +6,7 @@ use Prim.Native.Nat.{ℕ, _<_}
 use lib.ListN.{length}
 use lib.Seq.{sets}
 use Rattle.wire.specs.declared.Layout.{Layout}
-use Rattle.laws.specs.Tables.{nodeShape, GoodTable}
+use Rattle.laws.specs.Tables.{nodeShape, GoodTable, Limits}
 use Rattle.parting.specs.declared.Next.{Next}
 use Rattle.parting.specs.declared.Next.the-variants.{Here, Down}
 use Rattle.parting.specs.Parting.{parting}
@@ -15,10 +15,12 @@ use Rattle.parting.specs.Parting.{parting}
 abbrev pub partingAt : List ℕ → Layout → ℕ → List ℕ → Layout → ℕ → List ℕ
 partingAt s l i t m j = parting (nodeShape s l i) (nodeShape t m j)
 
--- two nodes of two good tables
+-- two nodes of two good tables that keep to the limits
 pub record Pair (s : List ℕ) (l : Layout) (i : ℕ) (t : List ℕ) (m : Layout) (j : ℕ) : Type 0 where
   pub old : GoodTable s l
   pub new : GoodTable t m
+  pub few-old : Limits l
+  pub few-new : Limits m
   pub left : i < l .nodes
   pub right : j < m .nodes
 

@@ -6,12 +6,12 @@ use wire::Side;
 ghost use mathlib.Core.Path.{_≡_};
 ghost use Rattle.wire.specs.declared.Checked.the-variants.{Good};
 ghost use Rattle.wire.specs.Table.{check as checkOf};
-ghost use Rattle.laws.specs.Tables.{GoodTable};
+ghost use Rattle.laws.specs.Tables.{GoodTable, Limits};
 ghost use Rattle.parting.specs.Parting.{parted};
 ghost use Rattle.parting.specs.Pairs.{partingAt, Pair, Follows, Stored};
 ghost use Rattle.parting.specs.Promise.{Parts};
 
-// How many positions a path has room for: as many as a table has nodes, and each is of a node below the last.
+// How many positions a path has room for: one for each node of a good table's longest chain of children, and its last node takes none.
 const ROOM: usize = 256;
 
 // The new table only appends; or they part so many positions down; or one of them is not good, why and at which node.
@@ -69,6 +69,7 @@ fn next_pair(old: &[u8], l: Layout, i: usize, new: &[u8], m: Layout, j: usize) -
 // The positions from the roots down, and how many there are.
 fn go_down(old: &[u8], l: Layout, new: &[u8], m: Layout, path: &mut [u64; ROOM]) -> usize
     requires { ⌜ GoodTable (now old) l × GoodTable (now new) m ⌝ }
+    requires { ⌜ Limits l × Limits m ⌝ }
     ensures { λ r. ⌜ Stored (partingAt (now (old .entry)) l (l .root) (now (new .entry)) m (m .root)) (now (path .entry)) r (now (path .exit)) ⌝ }
 {
     let mut i = l.root;

@@ -1,65 +1,62 @@
--- Reading what was written, whatever follows it, gives the same values and that same rest; so one message never stands for two value lists.
+-- The bytes in front of the output are the form of the list, and the run over them makes its values again; so one message never stands for two value lists.
 -- Assumes nothing.
-use mathlib.Core.Path.{_≡_, sym, ap, _∙_}
+use mathlib.Core.Path.{_≡_, refl, sym, ap, _∙_}
 use mathlib.Core.List.{List, _++_}
-use mathlib.Core.List as lists
-use Prim.Native.Nat.{ℕ, _*_, _/_}
+use Prim.Native.Nat.{ℕ}
 use native.Mathlib.Omega.{arith}
-use native.Mathlib.Nat.{zero-add}
-use lib.ListN.{length, length-append}
-use lib.Seq.{take-append-seam}
+use lib.ListN.{length, take, drop, length-append}
+use lib.Seq.{take-append-seam, drop-append-seam}
 use Rattle.wire.specs.declared.Layout.{Layout}
 use Rattle.wire.specs.declared.Checked.the-variants.{Good}
+use Rattle.wire.specs.declared.ReadAnswer.{ReadAnswer}
+use Rattle.wire.specs.declared.ReadAnswer.the-variants.{Done as Read}
+use Rattle.wire.specs.declared.WriteAnswer.the-variants.{Done as Written}
 use Rattle.wire.specs.Shape.{Shape}
 use Rattle.wire.specs.Table.{check, shapeOf}
-use Rattle.wire.specs.Values.{Entry, tell, valueOf, whole, SameValues}
-use Rattle.wire.specs.Reading.{Spot, reached, read, fit}
-use Rattle.wire.specs.Answers.{wordsPer, entriesOf, roomOf, readBy, reads}
-use Rattle.laws.proofs.Runs.{within-reached}
-use Rattle.laws.proofs.Places.{values-words, length-entries, front-words}
+use Rattle.wire.specs.Values.{Entry, SameValues}
+use Rattle.wire.specs.Reading.{Spot, reached}
+use Rattle.wire.specs.Answers.{entriesOf, reads, readAnswer, restOf, Form, form, noForm, writes, writeAnswer, outWith}
+use Rattle.laws.specs.Answered.{Reads, Writes}
 use Rattle.promises.specs.RoundTrip.{ReadBack, RoundTrip, Injective}
-use Rattle.promises.proofs.Trips.{Again}
-use Rattle.promises.proofs.Written.{Written, written, entries-words, values-told, Whole, whole-of}
+use Rattle.promises.proofs.WrittenReads.{WrittenReads, written-reads}
 
 -- ---- read back
 
-pub round-trip : RoundTrip
-unfolding reads readBy fit roomOf
-round-trip table ws pool room s rest store ok e fits =
+-- a form was written: it is what stands in front
+record Formed (f : Form) (n : ℕ) (out : List ℕ) : Type 0 where
+  bytes : List ℕ
+  is : f ≡ form bytes
+  long : n ≡ length bytes
+  front : take n out ≡ bytes
+
+formed : (f : Form) {n : ℕ} {before out : List ℕ} → Writes f before (Written n) out → Formed f n out
+unfolding writeAnswer outWith
+formed (form s) {n} {before} w =
+    let long : n ≡ length s = cc (w .answered) in
+    record { bytes = s; is = refl; long = long; front = rw (long, w .stored) (take-append-seam s (drop (length s) before)) }
+formed (noForm e p) {n} w = let z : _≡_ {A = ℕ} 0 1 = cc (w .answered) in absurd (omega arith)
+
+back : {table ws pool s rest store : List ℕ} {n : ℕ} → WrittenReads table ws pool s rest store → n ≡ length s → {a : ReadAnswer} {left : List ℕ}
+    → Reads (reads table (s ++ rest) store) store a left → ReadBack table ws pool (s ++ rest) rest n a left
+unfolding readAnswer restOf
+back {table} {s} {rest} {store} {n} r long {a} h =
     record {
-      layout = w .layout;
-      is-good = w .is-good;
-      ends = ap (λ r. r .ends) is;
-      many = rw is many;
-      same = rw is same;
-      stored = record { them = same .them; those = same .those; these = rw (is, front-words (a .made) (length ws) store many, values-words) (same .these) };
+      layout = r .layout;
+      is-good = r .is-good;
+      count = length (reads table (s ++ rest) store .made);
+      answered = answered;
+      many = r .many;
+      unread = rw (answered, long) (drop-append-seam s rest);
+      same = rw (h .stored) (r .stored);
     }
   where
-    w : Written table ws pool s
-    w = written table ws pool room s e
+    answered : a ≡ Read n (length (reads table (s ++ rest) store .made))
+    answered = rw (r .ends, ← long) at (h .answered)
 
-    t : Shape
-    t = shapeOf table (w .layout)
-
-    all : Whole t pool (entriesOf ws) s
-    all = whole-of w
-
-    a : Again pool (read t) (tell t) (length (entriesOf ws)) (all .tags) s 0 rest (s ++ rest)
-    a = all .again (entries-words ws ok) rest
-
-    many : wordsPer * length (a .made) ≡ length ws
-    many = ap (wordsPer *_) (a .many) ∙ length-entries ws (w .even)
-
-    is : reads table (s ++ rest) store ≡ record { made = a .made; ends = reached (record { bytes = rest; place = length s }) }
-    is = rw (w .is-good, a .reads, zero-add) (within-reached (length store / wordsPer) (a .made) _ (omega (arith, many)))
-
-    same : SameValues t pool (entriesOf ws) (s ++ rest) (a .made)
-    same =
-        record {
-          them = lists.map (valueOf pool) (all .tags);
-          those = all .are;
-          these = values-told t (s ++ rest) (a .tells) ∙ ap whole (sym (a .same));
-        }
+pub round-trip : RoundTrip
+round-trip table ws pool before out n ok w rest store fits a left h =
+    let f = formed (writes table ws pool (length before)) w in
+    rw (f .front) (back (written-reads table ws pool (length before) (f .bytes) rest store ok (f .is) fits) (f .long) (rw (f .front) at h))
 
 -- ---- one meaning
 
@@ -70,11 +67,11 @@ meet a b = record { them = a .them; those = a .those; these = b .those ∙ sym (
 pub injective : Injective
 injective table ws ws′ pool pool′ room room′ s s′ rest rest′ ok ok′ e e′ is = (front, same)
   where
-    a : ReadBack table ws pool s rest (ws ++ ws′)
-    a = round-trip table ws pool room s rest (ws ++ ws′) ok e (simp length-append (omega arith))
+    a : WrittenReads table ws pool s rest (ws ++ ws′)
+    a = written-reads table ws pool room s rest (ws ++ ws′) ok e (simp length-append (omega arith))
 
-    b : ReadBack table ws′ pool′ s′ rest′ (ws ++ ws′)
-    b = round-trip table ws′ pool′ room′ s′ rest′ (ws ++ ws′) ok′ e′ (simp length-append (omega arith))
+    b : WrittenReads table ws′ pool′ s′ rest′ (ws ++ ws′)
+    b = written-reads table ws′ pool′ room′ s′ rest′ (ws ++ ws′) ok′ e′ (simp length-append (omega arith))
 
     ends : reached (record { bytes = rest; place = length s }) ≡ reached (record { bytes = rest′; place = length s′ })
     ends = sym (a .ends) ∙ ap (λ m. reads table m (ws ++ ws′) .ends) is ∙ b .ends

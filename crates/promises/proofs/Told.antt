@@ -10,7 +10,8 @@ use Rattle.wire.specs.Walk.{following, isKnown}
 use Rattle.wire.specs.Values.{Entry, Tag, Told, kept, lacks, short, toldAfter, tellNothing, tellOn, tellThen, tellItem, telling, tell}
 use Rattle.laws.specs.Steps.{Every}
 use Rattle.laws.proofs.Walks.{every}
-use Rattle.promises.specs.OldNew.{entries, over, TellsAll, KeptAgain, LacksAgain}
+use Rattle.promises.specs.OldNew.{entries}
+use Rattle.promises.specs.Telling.{over, TellsAll, KeptAgain, LacksAgain}
 
 pub entries-append : (ts us : List Tag) → entries (ts ++ us) ≡ entries ts ++ entries us
 unfolding entries

@@ -1,3 +1,8 @@
+-- What the demands promise of the public answers: of a new table beside an old one, of what is written and read back, of the rest, and of a skim.
 pub mod OldNew
-pub mod Question
 pub mod RoundTrip
+pub mod Rest
+pub mod Skim
+-- Laws that these are proved by, which are no promises.
+pub mod Shapes
+pub mod Telling

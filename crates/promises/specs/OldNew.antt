@@ -1,83 +1,56 @@
--- What an old shape reads of a message that a new one, which appends to it, reads fully.
+-- Demand 3: what the append question's yes is, and what it promises of the messages that a new table reads.
 -- Assumes nothing.
 use mathlib.Core.Path.{_≡_}
-use mathlib.Core.List.{List, [], _∷_, _++_, map}
-use mathlib.Core.Option.{Option, none, some}
+use mathlib.Core.Bool.{true}
+use mathlib.Core.List.{List, _∷_, _++_, map}
+use mathlib.Core.Logic.{_↔_}
 use Prim.Native.Nat.{ℕ}
 use lib.ListN.{drop}
 use Rattle.wire.specs.declared.Refusal.the-variants.{Variant}
+use Rattle.wire.specs.declared.Layout.{Layout}
+use Rattle.wire.specs.declared.Checked.the-variants.{Good}
+use Rattle.wire.specs.declared.AskAnswer.the-variants.{Says}
 use Rattle.wire.specs.Shape.{Shape}
-use Rattle.wire.specs.Values.{Entry, Tag, Told, kept, lacks, short, tell, Value, Valued, whole, tooShort, values}
-use Rattle.wire.specs.Reading.{Spot, front, Outcome, reached, refused, Run, read, fit}
-use Rattle.wire.specs.Append.{Matches, Appends}
+use Rattle.wire.specs.Table.{check, shapeOf}
+use Rattle.wire.specs.Values.{Entry, Tag, kept, lacks, tell, Value, whole, tooShort, values}
+use Rattle.wire.specs.Reading.{Spot, reached, refused, Run}
+use Rattle.wire.specs.Append.{Appends}
+use Rattle.wire.specs.Answers.{reads, asks}
 use Rattle.laws.specs.Bounds.{start}
 
+-- Both tables are good, and the new one appends to the old one.
+pub record AppendsTo (old new : List ℕ) : Type 0 where
+  pub oldLayout : Layout
+  pub newLayout : Layout
+  pub goodOld : check old ≡ Good oldLayout
+  pub goodNew : check new ≡ Good newLayout
+  pub appends : Appends (shapeOf old oldLayout) (shapeOf new newLayout)
+
+-- The answer is yes exactly if so.
+abbrev pub YesExactly : Type 0
+YesExactly = (old new : List ℕ) → (asks old new ≡ Says true) ↔ AppendsTo old new
+
+-- The entries that were told apart as a value's.
 unfoldable pub entries : List Tag → List Entry
 entries ts = map (λ t. t .entry) ts
 
--- ---- the old reading
+-- What an old table with the shape t makes of a message of which the new table made the entries es, with the values vs, up to the place end.
+pub data OldMakes (t : Shape) (message : List ℕ) (end : ℕ) (es : List Entry) (vs : List Value) : Run → Type 0 where
+  -- If every kept enum item has a variant that t knows: the same entries and values without the appended ones, and all bytes behind those values.
+  same : (ts : List Tag) (appended : List Entry) (us more : List Value) → tell t es ≡ kept ts appended
+      → es ≡ entries ts ++ appended → values t message (entries ts) ≡ whole us → vs ≡ us ++ more
+      → OldMakes t message end es vs
+      (record { made = entries ts; ends = reached (record { bytes = drop (start appended end) message; place = start appended end }) })
+  -- If not: the same up to the first item that has another, which is refused as unknown variant, at its place.
+  unknown : (ts : List Tag) (e : Entry) (behind : List Entry) (us more : List Value) → tell t es ≡ lacks ts e behind
+      → es ≡ entries ts ++ e ∷ behind → values t message (entries ts) ≡ tooShort us → vs ≡ us ++ more
+      → OldMakes t message end es vs (record { made = entries ts; ends = refused Variant (e .place) })
 
--- The old run, as the old shape tells it from the entries of a reading of the message that ended at a place:
--- the values in front, and all bytes behind them; or the refusal of the first variant that is not known. Entries that are too few tell no run.
-unfoldable pub seen : List ℕ → (end : ℕ) → Told → Option Run
-seen message end (kept ts rest) =
-    some (record { made = entries ts; ends = reached (record { bytes = drop (start rest end) message; place = start rest end }) })
-seen message end (lacks ts e rest) = some (record { made = entries ts; ends = refused Variant (e .place) })
-seen message end (short ts) = none
-
--- The old shape's reading of a message that the new one reads fully is what it sees of the new one's entries.
-abbrev pub OldReads : Type 0
-OldReads = (old new : Shape) → Appends old new → (message : List ℕ) (es : List Entry) (end : Spot)
-    → read new (front message) ≡ record { made = es; ends = reached end }
-    → seen message (end .place) (tell old es) ≡ some (read old (front message))
-
--- So it is with a store that has room for the new reading.
-abbrev pub OldReadsWithin : Type 0
-OldReadsWithin = (old new : Shape) → Appends old new → (room : ℕ) (message : List ℕ) (es : List Entry) (end : Spot)
-    → fit room (read new (front message)) ≡ record { made = es; ends = reached end }
-    → seen message (end .place) (tell old es) ≡ some (fit room (read old (front message)))
-
--- ---- telling entries apart
-
--- the entries that were told apart
-unfoldable pub over : Told → List Entry
-over (kept ts rest) = entries ts ++ rest
-over (lacks ts e rest) = entries ts ++ e ∷ rest
-over (short ts) = entries ts
-
--- Telling entries apart leaves none out, adds none and keeps their order.
-abbrev pub TellsAll : Type 0
-TellsAll = (t : Shape) (es : List Entry) → over (tell t es) ≡ es
-
--- What a shape's reading made it tells as its own, whatever follows.
-abbrev pub OwnTold : Type 0
-OwnTold = (t : Shape) (x y : Spot) (es rest : List Entry)
-    → read t x ≡ record { made = es; ends = reached y } → (ts : List Tag) × (entries ts ≡ es) × (tell t (es ++ rest) ≡ kept ts rest)
-
--- Without appended fields no entry is left over.
-abbrev pub MatchingWhole : Type 0
-MatchingWhole = (old new : Shape) → Matches old new → (x y : Spot) (es rest : List Entry) (ts : List Tag)
-    → read new x ≡ record { made = es; ends = reached y } → tell old es ≡ kept ts rest → (entries ts ≡ es) × (rest ≡ [])
-
--- Entries that are a shape's value are that value by themselves.
-abbrev pub KeptAgain : Type 0
-KeptAgain = (t : Shape) (es rest : List Entry) (ts : List Tag) → tell t es ≡ kept ts rest → tell t (entries ts) ≡ kept ts []
-
--- Entries in front of a variant that a shape lacks are too few by themselves.
-abbrev pub LacksAgain : Type 0
-LacksAgain = (t : Shape) (es rest : List Entry) (ts : List Tag) (e : Entry) → tell t es ≡ lacks ts e rest → tell t (entries ts) ≡ short ts
-
--- ---- the values
-
--- An old reading's end, and the values of what it made, beside the new reading's values: the first of them, all that the old shape has;
--- or the first of them, and refused where the old shape's variants end.
-pub data OldValues (vs : List Value) : Outcome → Valued → Type 0 where
-  all-kept : {x : Spot} {us : List Value} (more : List Value) → vs ≡ us ++ more → OldValues vs (reached x) (whole us)
-  cut : {p : ℕ} {us : List Value} (more : List Value) → vs ≡ us ++ more → OldValues vs (refused Variant p) (tooShort us)
-
--- Never a different value: what the old reading made has the values that the new reading's begin with.
-abbrev pub NeverAnother : Type 0
-NeverAnother = (old new : Shape) → Appends old new → (room : ℕ) (message : List ℕ) (es : List Entry) (end : Spot)
-    → fit room (read new (front message)) ≡ record { made = es; ends = reached end }
-    → (vs : List Value) × (values new message es ≡ whole vs)
-    × OldValues vs (fit room (read old (front message)) .ends) (values old message (fit room (read old (front message)) .made))
+-- For such a pair, any message read fully under the new table gives under the old one the same values without the appended fields,
+-- the rest being all bytes behind those values; or, exactly if a kept enum item has a variant that the old table lacks,
+-- it is refused as unknown variant at the first such item. Never a different value.
+abbrev pub OldTableReads : Type 0
+OldTableReads = (old new : List ℕ) → asks old new ≡ Says true → (message store : List ℕ) (es : List Entry) (end : Spot)
+    → reads new message store ≡ record { made = es; ends = reached end }
+    → (l m : Layout) × (check old ≡ Good l) × (check new ≡ Good m) × (vs : List Value) × (values (shapeOf new m) message es ≡ whole vs)
+    × OldMakes (shapeOf old l) message (end .place) es vs (reads old message store)

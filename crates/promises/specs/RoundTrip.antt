@@ -1,4 +1,4 @@
--- What is written and what is read, as promises about what the public calls answer.
+-- Demand 2: what the writer's call wrote, the reader's call reads back; and one value list has one wire form.
 -- Assumes nothing.
 use mathlib.Core.Logic.{_↔_}
 use mathlib.Core.Path.{_≡_}
@@ -8,41 +8,48 @@ use lib.ListN.{length, take}
 use Rattle.wire.specs.declared.Layout.{Layout}
 use Rattle.wire.specs.declared.Checked.the-variants.{Good}
 use Rattle.wire.specs.declared.Item.the-variants.{Took}
+use Rattle.wire.specs.declared.ReadAnswer.{ReadAnswer}
+use Rattle.wire.specs.declared.ReadAnswer.the-variants.{Done as Read}
+use Rattle.wire.specs.declared.WriteAnswer.the-variants.{Done as Written}
 use Rattle.wire.specs.Shape.{Width}
 use Rattle.wire.specs.Table.{check, shapeOf}
 use Rattle.wire.specs.Values.{SameValues}
 use Rattle.wire.specs.Numbers.{varint, shortest}
-use Rattle.wire.specs.Reading.{reached}
-use Rattle.wire.specs.Answers.{wordsPer, entriesOf, reads, storeWith, form, writes}
+use Rattle.wire.specs.Answers.{wordsPer, entriesOf, reads, restOf, form, writes}
 use Rattle.laws.specs.Range.{AreBytes, AreWords}
+use Rattle.laws.specs.Answered.{Reads, Writes}
 
--- what reading s and any rest makes, where s was written of the words ws: as many entries, the same values, and that rest
-pub record ReadBack (table ws pool s rest store : List ℕ) : Type 0 where
+-- The answer of a reading that ended behind the first n bytes, and the store that it left: as many entries, the same values, and the rest.
+pub record ReadBack (table ws pool message rest : List ℕ) (n : ℕ) (a : ReadAnswer) (left : List ℕ) : Type 0 where
   pub layout : Layout
   pub is-good : check table ≡ Good layout
-  pub ends : reads table (s ++ rest) store .ends ≡ reached (record { bytes = rest; place = length s })
-  pub many : wordsPer * length (reads table (s ++ rest) store .made) ≡ length ws
-  pub same : SameValues (shapeOf table layout) pool (entriesOf ws) (s ++ rest) (reads table (s ++ rest) store .made)
-  pub stored : SameValues (shapeOf table layout) pool (entriesOf ws) (s ++ rest) (entriesOf (take (length ws) (storeWith (reads table (s ++ rest) store .made) store)))
+  pub count : ℕ
+  pub answered : a ≡ Read n count
+  pub many : wordsPer * count ≡ length ws
+  pub unread : restOf message a ≡ rest
+  pub same : SameValues (shapeOf table layout) pool (entriesOf ws) message (entriesOf (take (length ws) left))
 
--- reading what was written, whatever follows it, gives the same values and that same rest, if the store has room
+-- What was written is read back to the same values, whatever follows it: `write` answered n and left `out`;
+-- `read` is given these n bytes with any rest behind them, and a store with room.
 abbrev pub RoundTrip : Type 0
-RoundTrip = (table ws pool : List ℕ) (room : ℕ) (s rest store : List ℕ) → AreWords ws → writes table ws pool room ≡ form s → length ws ≤ length store
-    → ReadBack table ws pool s rest store
+RoundTrip = (table ws pool before out : List ℕ) (n : ℕ) → AreWords ws → Writes (writes table ws pool (length before)) before (Written n) out
+    → (rest store : List ℕ) → length ws ≤ length store → (a : ReadAnswer) (left : List ℕ)
+    → Reads (reads table (take n out ++ rest) store) store a left
+    → ReadBack table ws pool (take n out ++ rest) rest n a left
 
--- of two messages that were written neither begins the other, unless they are one; and then their values are the same
+-- Of two messages that were written neither begins the other, unless they are one; and then their values are the same.
 abbrev pub Injective : Type 0
 Injective = (table ws ws′ pool pool′ : List ℕ) (room room′ : ℕ) (s s′ rest rest′ : List ℕ) → AreWords ws → AreWords ws′
     → writes table ws pool room ≡ form s → writes table ws′ pool′ room′ ≡ form s′ → s ++ rest ≡ s′ ++ rest′
     → (s ≡ s′) × ((l : Layout) → check table ≡ Good l → SameValues (shapeOf table l) pool (entriesOf ws) pool′ (entriesOf ws′))
 
--- the same values are written to the same bytes
+-- The same values are written to the same bytes.
 abbrev pub SameBytes : Type 0
 SameBytes = (table ws ws′ pool pool′ : List ℕ) (room room′ : ℕ) (s s′ : List ℕ) (l : Layout) → check table ≡ Good l
     → writes table ws pool room ≡ form s → writes table ws′ pool′ room′ ≡ form s′
     → SameValues (shapeOf table l) pool (entriesOf ws) pool′ (entriesOf ws′) → s ≡ s′
 
--- whatever varint is read as x, the one that is written is no longer, and no other is as short
+-- Whatever varint is read as x, the one that is written is no longer, and no other is as short.
 abbrev pub Shortest : Type 0
 Shortest = (w : Width) (s : List ℕ) (x b n : ℕ) → AreBytes s → varint w s ≡ Took x b n
     → (length (shortest x) ≤ n) × ((n ≡ length (shortest x)) ↔ (take n s ≡ shortest x))

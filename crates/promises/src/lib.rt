@@ -1,1 +1,1 @@
-// What the format promises of whole messages and tables. It has no code: what is stated stands in specs/, and is proved in proofs/.
+// What the demands promise of the public answers. It has no code, and no code stands on it: what is stated stands in specs/, and is proved in proofs/.

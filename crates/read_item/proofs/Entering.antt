@@ -1,114 +1,118 @@
--- An item of a node, as the code enters it: no room, refused, or taken with a stretch behind it.
+-- An item of a node, by any sound way to read its own bytes: no room, refused, or taken with a stretch behind it.
 -- Assumes nothing.
-use mathlib.Core.Path.{_≡_, refl, sym, ap₂, _∙_}
+use mathlib.Core.Path.{_≡_, refl, sym, ap, ap₂, _∙_}
 use mathlib.Core.Bool.{true, false}
 use mathlib.Core.List.{List, [], _∷_}
-use Prim.Native.Nat.{ℕ, suc, _+_, _-_, _*_, _/_, _≤_, _<_}
+use Prim.Native.Nat.{ℕ, _+_, _-_, _*_, _≤_, _<_}
 use native.Mathlib.Omega.{arith}
 use lib.ListN.{length}
-use lib.Seq.{sets}
 use Rattle.wire.specs.declared.Refusal.{Refusal}
 use Rattle.wire.specs.declared.Refusal.the-variants.{Room}
 use Rattle.wire.specs.declared.Item.{Item}
 use Rattle.wire.specs.declared.Item.the-variants.{Took, Refused}
 use Rattle.wire.specs.declared.Layout.{Layout}
-use Rattle.wire.specs.Walk.{Follow, each, following, isKnown, times, along, walks}
+use Rattle.wire.specs.Walk.{each, following, isKnown, times, along, walks}
 use Rattle.wire.specs.Table.{kindOf, Node, nodeAt, recordOf}
-use Rattle.wire.specs.Reading.{Spot, refused, head, past, enter, readItem, reading, fit}
-use Rattle.wire.specs.Answers.{words, wordsOf, roomOf}
+use Rattle.wire.specs.Reading.{Head, Spot, reached, refused, past, enter, readItem, reading}
+use Rattle.wire.specs.Answers.{wordsOf}
 use Rattle.laws.specs.Bounds.{Fits, takes}
+use Rattle.laws.specs.Heads.{Sound}
+use Rattle.laws.specs.KindRanges.{IsInner}
 use Rattle.laws.specs.Tables.{nodeKind, nodeFirst, nodeCount, nodeShape, nodeShapes, GoodTable}
-use Rattle.laws.proofs.Bounds.{head-fits}
-use Rattle.laws.proofs.Known.{head-known}
 use Rattle.laws.proofs.Runs.{then-nothing}
-use Rattle.laws.proofs.Children.{read-node, read-none}
+use Rattle.laws.proofs.Children.{walk-node, read-none}
+use Rattle.laws.proofs.EachKind.{outer-kinds}
 use Rattle.laws.proofs.Numbering.{kind-below}
 use Rattle.table.specs.declared.Stretch.{Stretch}
-use Rattle.table.specs.Parts.{Falls, followed}
+use Rattle.table.specs.Parts.{Falls, followed, nodeStep, roundsStep}
 use Rattle.table.proofs.Stretches.{node-falls, falls-followed, along-followed}
-use Rattle.read_item.specs.Lay.{laid, lay}
-use Rattle.read_item.specs.Steps.{spot, readNode, readRow, headed, readRounds, Goes}
-use Rattle.read_item.proofs.Heads.{outer-kinds}
-use Rattle.read_item.proofs.Laying.{left, laid-none, laid-behind, room-sets}
+use Rattle.entry.specs.Words.{putAt}
+use Rattle.read_item.specs.declared.Entered.the-variants.{On, Refused as Refusing}
+use Rattle.read_item.specs.Lay.{Left, lay}
+use Rattle.read_item.specs.Steps.{spot, ownOf, afterOf, withEntry, Enters, goes, stops}
+use Rattle.read_item.proofs.Laying.{left, laid-none, lay-nothing, lay-entry, lay-refused}
+
+-- ---- what the code finds
 
 -- the number of a node's kind, and how many children it has
-pub record Found (s : List ℕ) (l : Layout) (i number n : ℕ) : Type 0 where
-  pub kind : number ≡ nodeAt s (recordOf l i) .number
-  pub count : n ≡ nodeCount (nodeAt s (recordOf l i))
+pub record Found (r : Node) (number n : ℕ) : Type 0 where
+  pub kind : number ≡ r .number
+  pub count : n ≡ nodeCount r
 
--- the stretch that follows an item of the node i
-pub record Leads (s : List ℕ) (l : Layout) (i : ℕ) (way : Follow) (to : Stretch) : Type 0 where
+module _ {r : Node} {k n : ℕ} (f : Found r k n) (h : Head) (bs : List ℕ) (p : ℕ) {own : Item} (found : own ≡ h (kindOf k) n p bs) where
+  own-is : ownOf h r (spot bs p) ≡ own
+  unfolding ownOf
+  own-is = sym (found ∙ ap₂ (λ (k n : ℕ). h (kindOf k) n p bs) (f .kind) (f .count))
+
+  module _ {l : Layout} {i m : ℕ} {s : List ℕ} where
+    pub enters-same : {e : Refusal} → own ≡ Refused e → Enters l i r p m s (ownOf h r (spot bs p)) (Refusing e) s
+    enters-same q = rw (own-is ∙ q) stops
+
+    pub enters-on : {a b u : ℕ} (from : ℕ) {to : Stretch} {t : List ℕ} → own ≡ Took a b u → from ≡ nodeFirst l i r → to ≡ followed (following (kindOf k) a) from n → t ≡ putAt s m (a ∷ b ∷ [])
+        → Enters l i r p m s (ownOf h r (spot bs p)) (On to u) t
+    enters-on {a} {b} {u} from {to} q first follows put =
+        let after : to ≡ afterOf l i r a = unfold afterOf in (follows ∙ rw (first, f .kind, f .count)) in
+        rw (own-is ∙ q, after, put) (unfold withEntry wordsOf in goes)
+
+module _ {s : List ℕ} {l : Layout} {i : ℕ} (g : GoodTable s l) (below : i < l .nodes) where
+  pub number-small : (k : ℕ) → k ≡ nodeAt s (recordOf l i) .number → k < 32
+  number-small k e = omega (arith, kind-below (nodeAt s (recordOf l i) .number) (g .node-good i below .is-kind))
+
+  pub children-inside : {n from : ℕ} → n ≡ nodeCount (nodeAt s (recordOf l i)) → from ≡ nodeFirst l i (nodeAt s (recordOf l i)) → from + 2 * n ≤ length s
+  children-inside count first = rw (first, count) (node-falls g below .inside)
+
+-- ---- what it leaves
+
+-- An item of the node i was taken at a spot: its own bytes are there, the nodes that follow fall, and what they leave is the whole.
+pub record Goes (h : Head) (room : ℕ) (whole : Left) (s : List ℕ) (l : Layout) (i : ℕ) (x : Spot) (m : ℕ) (to : Stretch) (used : ℕ) (store : List ℕ) : Type 0 where
+  pub inside : used ≤ length (x .bytes)
   pub falls : Falls s (to .from) (to .width) i
-  pub same : (x : Spot) → along (reading head) way (walks (reading head) (nodeShapes s l i (nodeAt s (recordOf l i)))) x
-      ≡ readRounds s l (to .rounds) false (to .from) (to .width) x
+  pub rest : whole ≡ lay room (roundsStep (reading h) s l (to .rounds) false (to .from) (to .width) (past used x)) (m + 1) store
 
-module _ (s : List ℕ) (l : Layout) (i : ℕ) (g : GoodTable s l) (h : i < l .nodes) where
+module _ (h : Head) (room : ℕ) {s : List ℕ} {l : Layout} {i : ℕ} (g : GoodTable s l) (below : i < l .nodes) (x : Spot) (m : ℕ) (store : List ℕ) where
   abbrev node : Node
   node = nodeAt s (recordOf l i)
 
-  pub number-small : (k : ℕ) → k ≡ node .number → k < 32
-  number-small k e = omega (arith, kind-below (node .number) (g .node-good i h .is-kind))
+  pub item-full : room ≤ m → lay room (nodeStep (reading h) s l i x) m store ≡ left (refused Room (x .place)) m store
+  unfolding lay nodeStep
+  item-full full =
+      let none : room - m ≡ 0 = omega arith in
+      rw (none, read-none h (nodeShape s l i) x) (laid-none (refused Room (x .place)) m store)
 
-  -- ---- what follows
+  module _ (some : m < room) where
+    entered : {own : Item} → ownOf h node x ≡ own
+        → lay room (nodeStep (reading h) s l i x) m store ≡ lay room (enter own (λ a. along (reading h) (following (nodeKind node) a) (walks (reading h) (nodeShapes s l i node))) x) m store
+    unfolding ownOf nodeStep readItem
+    entered q = rw (walk-node (reading h) (g .node-good i below) x, q)
 
-  module _ (k n : ℕ) (f : Found s l i k n) where
-    pub after-inside : (from : ℕ) → from ≡ nodeFirst l i node → from + 2 * n ≤ length s
-    after-inside from first = rw (first, f .count) (node-falls g h .inside)
+    pub item-refused : {e : Refusal} → ownOf h node x ≡ Refused e → lay room (nodeStep (reading h) s l i x) m store ≡ left (refused e (x .place)) m store
+    unfolding enter
+    item-refused {e} q = entered q ∙ lay-refused room m store e (x .place) some
 
-    pub leads : (a from : ℕ) (to : Stretch) → isKnown (following (kindOf k) a) n ≡ true → from ≡ nodeFirst l i node → to ≡ followed (following (kindOf k) a) from n
-        → Leads s l i (following (kindOf k) a) to
-    unfolding readRounds readRow headed
-    leads a from to known first follows =
-        rw (follows, first, f .count)
-        (record {
-          falls = falls-followed (node-falls g h) (following (kindOf k) a) (rw (f .count) at known);
-          same = along-followed (reading head) then-nothing (nodeShape s l) s (following (kindOf k) a) (nodeFirst l i node) (nodeCount node) (rw (f .count) at known);
-        })
+    took : {a b u : ℕ} → ownOf h node x ≡ Took a b u → lay room (nodeStep (reading h) s l i x) m store
+        ≡ lay room (along (reading h) (following (nodeKind node) a) (walks (reading h) (nodeShapes s l i node)) (past u x)) (m + 1) (withEntry a b (x .place) m store)
+    unfolding enter withEntry
+    took {a} {b} q = entered q ∙ lay-entry room m store (record { first = a; second = b; place = x .place }) _ some
 
-  pub leads-nowhere : (k a : ℕ) → (15 ≤ k → k ≤ 19 → ⊥) → Leads s l i (following (kindOf k) a) (record { rounds = 0; from = 0; width = 0 })
-  unfolding following along times readRounds
-  leads-nowhere k a outer =
-      let none = outer-kinds (λ q. following q a ≡ each 0) (λ x. refl) (λ c. refl) k outer in
-      rw none (record { falls = record { inside = omega arith; below = λ c b. absurd (omega arith) }; same = λ x. refl })
-
-  -- ---- the item
-
-  pub enters-full : (bs : List ℕ) (p m : ℕ) (store : List ℕ) → length store / 2 ≤ m → lay (readNode s l i (spot bs p)) m store ≡ left (refused Room p) m store
-  unfolding lay readNode roomOf
-  enters-full bs p m store full =
-      let none : length store / 2 - m ≡ 0 = omega arith in
-      rw (none, read-none (nodeShape s l i) (spot bs p)) (laid-none (refused Room p) m store)
-
-  module _ (bs : List ℕ) (p k n : ℕ) (own : Item) (f : Found s l i k n) (found : own ≡ head (kindOf k) n p bs) where
-    own-inside : {a b u : ℕ} → own ≡ Took a b u → u ≤ length bs
-    own-inside {a} {b} {u} took = go (rw (sym found ∙ took) at (head-fits (kindOf k) n p bs))
+    pub item-goes : Sound h → {a b u : ℕ} → ownOf h node x ≡ Took a b u
+        → Goes h room (lay room (nodeStep (reading h) s l i x) m store) s l i x m (afterOf l i node a) u (withEntry a b (x .place) m store)
+    unfolding afterOf
+    item-goes sound {a} {b} {u} q =
+        let own : h (nodeKind node) (nodeCount node) (x .place) (x .bytes) ≡ Took a b u = unfold ownOf in q in
+        let knows : isKnown (following (nodeKind node) a) (nodeCount node) ≡ true = sound .knows (nodeKind node) (nodeCount node) (x .place) (x .bytes) own in
+        record {
+          inside = ends (rw own at (sound .inside (nodeKind node) (nodeCount node) (x .place) (x .bytes)));
+          falls = falls-followed (node-falls g below) (following (nodeKind node) a) knows;
+          rest = took q ∙ ap (λ r. lay room r (m + 1) (withEntry a b (x .place) m store)) (along-followed (reading h) s l then-nothing _ _ _ knows (past u x));
+        }
       where
-        go : Fits bs (Took a b u) → u ≤ length bs
-        go (takes l) = l
+        ends : Fits (x .bytes) (Took a b u) → u ≤ length (x .bytes)
+        ends (takes l) = l
 
-    pub own-known : {a b u : ℕ} → own ≡ Took a b u → isKnown (following (kindOf k) a) n ≡ true
-    own-known took = head-known (kindOf k) n p bs (sym found ∙ took)
-
-    module _ (m : ℕ) (store : List ℕ) (room : m < length store / 2) where
-      entered : lay (readNode s l i (spot bs p)) m store
-          ≡ laid (enter own (λ a y. fit (roomOf store - (m + 1)) (along (reading head) (following (nodeKind node) a) (walks (reading head) (nodeShapes s l i node)) y)) (spot bs p)) m store
-      unfolding lay readNode roomOf readItem
-      entered =
-          let one : length store / 2 - m ≡ suc (length store / 2 - (m + 1)) = omega arith in
-          let its : head (nodeKind node) (nodeCount node) p bs ≡ own = sym (found ∙ ap₂ (λ (k n : ℕ). head (kindOf k) n p bs) (f .kind) (f .count)) in
-          rw (one, read-node (length store / 2 - (m + 1)) (g .node-good i h) (spot bs p), its)
-
-      pub enters-refused : {e : Refusal} → own ≡ Refused e → lay (readNode s l i (spot bs p)) m store ≡ left (refused e p) m store
-      unfolding enter
-      enters-refused {e} o = rw (entered, o) (laid-none (refused e p) m store)
-
-      pub goes-on : {a b u : ℕ} (to : Stretch) (st : List ℕ) → own ≡ Took a b u → Leads s l i (following (kindOf k) a) to → st ≡ sets store (2 * m) (a ∷ b ∷ [])
-          → Goes (lay (readNode s l i (spot bs p)) m store) s l i (spot bs p) m to u st
-      unfolding lay roomOf enter words wordsOf
-      goes-on {a} {b} {u} to st took way put = record {
-        room = rw (put, room-sets store (2 * m) (a ∷ b ∷ [])) room;
-        inside = own-inside took;
-        falls = way .falls;
-        rest = rw (put, room-sets store (2 * m) (a ∷ b ∷ []), ← (way .same (past u (spot bs p))), f .kind)
-            (entered ∙ (rw took (laid-behind (record { first = a; second = b; place = p } ∷ []) _ m store)));
-      }
+    -- nothing follows a leaf
+    pub item-alone : {a b u : ℕ} → (IsInner (node .number) → ⊥) → ownOf h node x ≡ Took a b u
+        → lay room (nodeStep (reading h) s l i x) m store ≡ left (reached (past u x)) (m + 1) (withEntry a b (x .place) m store)
+    unfolding along times
+    item-alone {a} {b} {u} outer q =
+        let none : following (nodeKind node) a ≡ each 0 = unfold following in outer-kinds (λ q. following q a ≡ each 0) (λ x. refl) (λ c. refl) (node .number) outer in
+        took q ∙ rw none (lay-nothing room (past u x) (m + 1) (withEntry a b (x .place) m store))

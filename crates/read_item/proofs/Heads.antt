@@ -3,11 +3,10 @@
 use mathlib.Core.Path.{_≡_, refl, sym, ap, _∙_}
 use mathlib.Core.Bool.{true}
 use mathlib.Core.List.{List, [], _∷_}
-use Prim.Native.Nat.{ℕ, _+_, _*_, _<_, _≤_, _^_}
+use Prim.Native.Nat.{ℕ, _+_, _<_, _≤_, _^_}
 use native.Mathlib.Omega.{arith}
 use lib.ListN.{length}
 use lib.Dec.{ltb}
-use lib.Seq.{sets}
 use borrow.Author.Tests.{lt-ltb, le-ltb}
 use Rattle.wire.specs.declared.Refusal.{Refusal}
 use Rattle.wire.specs.declared.Refusal.the-variants.{BadOption, Variant}
@@ -15,17 +14,20 @@ use Rattle.wire.specs.declared.Item.{Item}
 use Rattle.wire.specs.declared.Item.the-variants.{Took, Refused}
 use Rattle.wire.specs.declared.ReadAnswer.the-variants.{Done, Refused as NotRead}
 use Rattle.wire.specs.Tests.{pick}
-use Rattle.wire.specs.Shape.{w32, w64, Plain, Content, Kind, plain, pooled}
+use Rattle.wire.specs.Shape.{w32, w64}
 use Rattle.wire.specs.Numbers.{varint}
 use Rattle.wire.specs.Table.{kinds, kindOf}
 use Rattle.wire.specs.Reading.{flag, known, head}
+use Rattle.wire.specs.Answers.{wordsOf}
 use Rattle.laws.specs.Bounds.{Fits, takes}
+use Rattle.laws.specs.KindRanges.{IsInner, isLeaf}
 use Rattle.laws.proofs.Splits.{by-lt, of-pick}
 use Rattle.laws.proofs.Bounds.{head-fits}
-use Rattle.laws.proofs.EachKind.{end, _&_, in-kinds, low-kinds, high-kinds}
-use Rattle.leaf.specs.Leaves.{isLeaf, takeAt}
+use Rattle.laws.proofs.EachKind.{end, _&_, in-kinds, outer-kinds}
+use Rattle.entry.specs.Words.{putAt}
+use Rattle.leaf.specs.Leaves.{takeAt}
 use Rattle.leaf.proofs.Leaves.{low-leaf, high-leaf, is-leaf}
-use Rattle.read_item.specs.Steps.{Puts, entry, same}
+use Rattle.read_item.specs.Steps.{withEntry, Puts, entry, same}
 
 -- ---- a variant's number
 
@@ -42,20 +44,16 @@ module _ (n : ℕ) (i : Item) where
   unfolding known pick
   known-not {v} p h = rw (p, le-ltb v n h)
 
--- ---- a leaf's item in the store
+-- ---- an item in the store
 
 module _ {p m : ℕ} {s : List ℕ} {i : Item} where
   pub puts-same : {e : Refusal} → i ≡ Refused e → Puts p m s i (NotRead e p m) s
   puts-same q = rw q same
 
-  pub puts-entry : {a b n : ℕ} {t : List ℕ} → i ≡ Took a b n → t ≡ sets s (2 * m) (a ∷ b ∷ []) → Puts p m s i (Done (p + n) (m + 1)) t
-  puts-entry q put = rw (q, put) entry
+  pub puts-entry : {a b n : ℕ} {t : List ℕ} → i ≡ Took a b n → t ≡ putAt s m (a ∷ b ∷ []) → Puts p m s i (Done (p + n) (m + 1)) t
+  puts-entry q put = rw (q, put) (unfold withEntry wordsOf in entry)
 
 -- ---- by number
-
--- a number that is none of 15 to 19
-pub outer-kinds : (P : Kind → Type 0) → ((x : Plain) → P (plain x)) → ((c : Content) → P (pooled c)) → (k : ℕ) → (15 ≤ k → k ≤ 19 → ⊥) → P (kindOf k)
-outer-kinds P p q k outer = by-lt k 15 (low-kinds P p q k) (λ h. by-lt 19 k (high-kinds P p q k) (λ g. absurd (outer h g)))
 
 module _ (n p : ℕ) (s : List ℕ) (k : ℕ) where
   pub head-option : k ≡ 15 → flag BadOption s ≡ head (kindOf k) n p s
@@ -75,12 +73,12 @@ module _ (n p : ℕ) (s : List ℕ) (k : ℕ) where
   head-enum e = rw e
 
   -- without children, how many there are does not matter
-  pub head-leaf : (15 ≤ k → k ≤ 19 → ⊥) → k < 32 → p + length s < 2 ^ 64 → takeAt k p s ≡ head (kindOf k) n p s
+  pub head-leaf : (IsInner k → ⊥) → k < 32 → p + length s < 2 ^ 64 → takeAt k p s ≡ head (kindOf k) n p s
   unfolding takeAt pick head
   head-leaf outer few fits = rw (lt-ltb (p + length s) (2 ^ 64) fits, outer-leaf) (outer-kinds (λ q. head q 0 p s ≡ head q n p s) (λ x. refl) (λ c. refl) k outer)
     where
       outer-leaf : isLeaf k ≡ true
-      outer-leaf = by-lt k 15 (λ h. low-leaf k h) (λ h. by-lt 19 k (λ g. high-leaf k g (omega arith)) (λ g. absurd (outer h g)))
+      outer-leaf = by-lt k 15 (λ h. low-leaf k h) (λ h. by-lt 19 k (λ g. high-leaf k g (omega arith)) (λ g. absurd (outer (h, g))))
 
 module _ (p : ℕ) (s : List ℕ) (k : ℕ) where
   -- a leaf below 15

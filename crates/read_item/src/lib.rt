@@ -1,20 +1,18 @@
-// One item of a message: its own bytes, and its entry in the store.
+// One item of a message: its own bytes, and its entry, which is stored where the store has words for it.
 use table::Stretch;
 use wire::Item;
 use wire::Layout;
 use wire::ReadAnswer;
 use wire::Refusal;
 ghost use mathlib.Core.Path.{_≡_};
-ghost use mathlib.Core.List.{[], _∷_};
-ghost use Prim.Native.Nat.{_+_, _*_, _/_, _^_, _<_, _≤_};
+ghost use Prim.Native.Nat.{_+_, _^_, _<_};
 ghost use lib.ListN.{length};
-ghost use lib.Seq.{sets};
-ghost use Rattle.wire.specs.Table.{kindOf};
+ghost use Rattle.wire.specs.Table.{kindOf, nodeAt, recordOf};
 ghost use Rattle.wire.specs.Reading.{known as knownOf, head as headOf};
+ghost use Rattle.laws.specs.KindRanges.{IsInner};
 ghost use Rattle.laws.specs.Tables.{GoodTable};
 ghost use Rattle.leaf.specs.Leaves.{takeAt};
-ghost use Rattle.read_item.specs.Lay.{lay};
-ghost use Rattle.read_item.specs.Steps.{spot, readNode, Inner, Puts, Enters};
+ghost use Rattle.read_item.specs.Steps.{spot, Inner, ownOf, Puts, Enters};
 
 // What an item leaves to do: the stretch that follows it, behind the bytes that it took; or why it is refused.
 pub enum Entered {
@@ -50,7 +48,7 @@ fn known(count: usize, got: Item) -> Item
 
 // The own bytes of an item that has children: so many, of which a variant's number names one.
 fn head_bytes(number: u8, count: usize, part: &[u8], place: usize) -> Item
-    requires { ⌜ (15 ≤ number) × (number ≤ 19) ⌝ }
+    requires { ⌜ IsInner number ⌝ }
     ensures { λ r. ⌜ r ≡ headOf (kindOf number) count place (now (part .entry)) ⌝ }
 {
     match number {
@@ -93,15 +91,6 @@ fn leaf_bytes(number: u8, part: &[u8], place: usize) -> Item
 
 // ---- an item
 
-pub fn put_entry(store: &mut [u64], made: usize, first: u64, second: u64)
-    requires { ⌜ made < length (now store) / 2 ⌝ }
-    ensures { λ _. ⌜ now (store .exit) ≡ sets (now (store .entry)) (2 * made) (first ∷ second ∷ []) ⌝ }
-{
-    let at = 2 * made;
-    store[at] = first;
-    store[at + 1] = second;
-}
-
 // A leaf: its entry, or why it is refused.
 pub fn read_leaf(
     number: u8,
@@ -111,7 +100,7 @@ pub fn read_leaf(
     made: usize,
 ) -> ReadAnswer
     requires { ⌜ place + length (now part) < 2 ^ 64 ⌝ }
-    requires { ⌜ made < length (now store) / 2 ⌝ }
+    requires { ⌜ made + 1 < 2 ^ 64 ⌝ }
     ensures { λ r. ⌜ Puts place made (now (store .entry)) (takeAt number place (now (part .entry))) r (now (store .exit)) ⌝ }
 {
     let own = leaf_bytes(number, part, place);
@@ -126,7 +115,7 @@ pub fn read_leaf(
             second,
             used,
         } => {
-            put_entry(store, made, first, second);
+            entry::put(store, made, first, second);
             let behind = place + used;
             let count = made + 1;
             ReadAnswer::Done {
@@ -151,8 +140,7 @@ pub fn enter(
     requires { ⌜ GoodTable (now table) l ⌝ }
     requires { ⌜ node < l .nodes ⌝ }
     requires { ⌜ Inner (now table) l node number ⌝ }
-    requires { ⌜ made < length (now store) / 2 ⌝ }
-    ensures { λ r. ⌜ Enters (lay (readNode (now (table .entry)) l node (spot (now (part .entry)) place)) made (now (store .entry))) (now (table .entry)) l node (spot (now (part .entry)) place) made r (now (store .exit)) ⌝ }
+    ensures { λ r. ⌜ Enters l node (nodeAt (now (table .entry)) (recordOf l node)) place made (now (store .entry)) (ownOf headOf (nodeAt (now (table .entry)) (recordOf l node)) (spot (now (part .entry)) place)) r (now (store .exit)) ⌝ }
 {
     let width = table::child_count(table, l, node);
     let own = head_bytes(number, width, part, place);
@@ -163,7 +151,7 @@ pub fn enter(
             second,
             used,
         } => {
-            put_entry(store, made, first, second);
+            entry::put(store, made, first, second);
             let from = table::first_child(table, l, node);
             let to = table::follow(number, first, from, width);
             Entered::On { to, used }

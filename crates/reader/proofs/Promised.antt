@@ -1,41 +1,65 @@
--- The public promises, from what the cycle gives for the root, whose number stands in the trailer.
+-- The contracts of the public calls, from what the cycle gives for the root, whose number stands in the trailer: with a store's own room, and with none.
 -- Assumes nothing.
-use mathlib.Core.Path.{_≡_, refl, sym, ap, ap₂, _∙_}
+use mathlib.Core.Path.{_≡_, sym, ap, ap₂, _∙_}
+use mathlib.Core.Bool.{false}
 use mathlib.Core.List.{List, [], _∷_}
-use Prim.Native.Nat.{ℕ, zero, suc, _+_, _-_, _<_, _≤_}
+use Prim.Native.Nat.{ℕ, zero, suc, _+_, _-_, _≤_}
 use native.Mathlib.Nat.{sub-zero, zero-add}
 use native.Mathlib.Omega.{arith}
-use lib.ListN.{length, take, drop, drop-of-length-le}
-use lib.Seq.{sets, sets-eq}
+use lib.ListN.{length, drop}
+use lib.Seq.{take-all, sets-eq}
 use Rattle.wire.specs.declared.Refusal.{Refusal}
 use Rattle.wire.specs.declared.Layout.{Layout}
 use Rattle.wire.specs.declared.Checked.{Checked}
 use Rattle.wire.specs.declared.Checked.the-variants.{Good, Bad}
 use Rattle.wire.specs.declared.ReadAnswer.{ReadAnswer}
 use Rattle.wire.specs.declared.ReadAnswer.the-variants.{Done, Refused}
+use Rattle.wire.specs.Walk.{walk}
 use Rattle.wire.specs.Table.{check, shapeOf}
 use Rattle.wire.specs.Values.{Entry}
-use Rattle.wire.specs.Reading.{Spot, past, Outcome, reached, refused, Run, front, head, runAfter, reading, read, within, fit}
-use Rattle.wire.specs.Answers.{words, roomOf, readBy, readAnswer, restOf, storeWith, reads}
-use Rattle.laws.specs.Bounds.{Stays, reaches, refuses}
+use Rattle.wire.specs.Reading.{Outcome, reached, refused, front, Head, head, runAfter, reading, read, within, fit}
+use Rattle.wire.specs.Answers.{words, roomOf, storeWith, readBy, reads, skims, restOf}
+use Rattle.laws.specs.Answered.{Reads}
 use Rattle.laws.specs.Tables.{nodeShape}
-use Rattle.laws.proofs.Bounds.{read-stays}
-use Rattle.laws.proofs.Children.{row-once}
-use Rattle.laws.proofs.Parts.{tail}
 use Rattle.laws.proofs.Places.{length-words}
-use Rattle.laws.proofs.Runs.{then-nothing, fit-reached}
+use Rattle.laws.proofs.Runs.{then-nothing}
 use Rattle.laws.proofs.Tables.{good-table}
 use Rattle.laws.proofs.Unique.{by-equation}
-use Rattle.table.proofs.Stretches.{root-number}
+use Rattle.table.proofs.Stretches.{rounds-once, flat-rounds, root-number}
 use Rattle.table.specs.declared.Way.{Way}
-use Rattle.read_item.specs.Lay.{laid, lay}
-use Rattle.read_item.specs.Steps.{readRow, headed, readRounds}
-use Rattle.reader.proofs.Rounds.{SameReading}
-use Rattle.reader.proofs.Turns.{flat-rounds}
+use Rattle.table.specs.Parts.{Flat, nodeStep, roundsStep}
+use Rattle.read_item.specs.Lay.{storeFrom, laid, lay}
+use Rattle.read_item.proofs.Laying.{laid-none}
 use Rattle.reader.specs.Steps.{Gives}
-use Rattle.reader.specs.Promise.{Reads, RestIsLeft, OneReading, OneRest}
+use Rattle.reader.specs.Promise.{OneReading, OneRest, OneSkim}
+use Rattle.reader.proofs.Laying.{gives-refused}
 
--- ---- the store
+-- ---- the reading, with any room
+
+-- the rounds of the root are the whole shape, by any way to read items
+module _ (h : Head) (room : ℕ) (table message store : List ℕ) {l : Layout} {way : Way} {a : ReadAnswer} {st : List ℕ} (at : ℕ) where
+  root-gives : check table ≡ Good l → at + 4 ≡ length table → Flat table l (l .nodes) at 1 way
+      → Gives (lay room (roundsStep (reading h) table l 1 (way .headed) (way .from) (way .width) (front message)) 0 store) a st
+      → Gives (laid (fit room (walk (reading h) (shapeOf table l) (front message))) 0 store) a st
+  unfolding lay
+  root-gives good e flat g =
+      let goods = good-table table l good in
+      let root : roundsStep (reading h) table l 1 false at 1 (front message) ≡ walk (reading h) (nodeShape table l (l .root)) (front message)
+      = rounds-once (reading h) table l then-nothing at (front message) ∙ (unfold nodeStep in ap (λ i. walk (reading h) (nodeShape table l i) (front message)) (root-number table good at e)) in
+      rw (goods .its-shape) (rw (← flat-rounds goods (omega arith) (reading h) then-nothing flat 1, root, sub-zero room) at g)
+
+module _ (table message : List ℕ) (room : ℕ) (store : List ℕ) where
+  pub with-bad : {e : Refusal} {p : ℕ} → check table ≡ Bad e p → Gives (laid (readBy (check table) table room message) 0 store) (Refused e p 0) store
+  unfolding readBy
+  with-bad {e} {p} bad = gives-refused (rw bad (laid-none (refused e p) 0 store))
+
+  pub with-good : {l : Layout} {way : Way} {a : ReadAnswer} {st : List ℕ} (at : ℕ) → check table ≡ Good l → at + 4 ≡ length table → Flat table l (l .nodes) at 1 way
+      → Gives (lay room (roundsStep (reading head) table l 1 (way .headed) (way .from) (way .width) (front message)) 0 store) a st
+      → Gives (laid (readBy (check table) table room message) 0 store) a st
+  unfolding readBy read
+  with-good at good e flat g = rw good (root-gives head room table message store at good e flat g)
+
+-- ---- the room of a store, and no store
 
 few : (room : ℕ) (es : List Entry) (o : Outcome) → length (within room es o .made) ≤ room
 unfolding within runAfter
@@ -45,68 +69,40 @@ few (suc room) [] (refused e p) = omega arith
 few zero (e ∷ es) o = omega arith
 few (suc room) (e ∷ es) o = let h = few room es o in omega arith
 
-in-front : (es : List Entry) (s : List ℕ) → length es ≤ roomOf s → sets s 0 (words es) ≡ storeWith es s
-unfolding storeWith roomOf
-in-front es s h = sets-eq (words es) s 0 (omega (arith, length-words es)) ∙ rw (zero-add (length (words es)))
+by-few : (c : Checked) (table : List ℕ) (room : ℕ) (message : List ℕ) → length (readBy c table room message .made) ≤ room
+unfolding readBy fit
+by-few (Good l) table room message = few room _ _
+by-few (Bad e i) table room message = omega arith
 
--- a run that is laid into a store from its front on
-reads-front : (r : Run) (s : List ℕ) {a : ReadAnswer} {st : List ℕ} → Gives (lay r 0 s) a st → Reads (fit (roomOf s) r) s a st
-unfolding lay laid fit
-reads-front r s g =
-    let all = rw (sub-zero (roomOf s)) at g in
-    record {
-      answered = all .answered ∙ rw (zero-add (length (within (roomOf s) (r .made) (r .ends) .made)));
-      stored = all .stored ∙ in-front (within (roomOf s) (r .made) (r .ends) .made) s (few (roomOf s) (r .made) (r .ends));
-    }
+-- so many entries have their words
+in-front : (es : List Entry) (s : List ℕ) → length es ≤ roomOf s → storeFrom es 0 s ≡ storeWith es s
+unfolding storeFrom storeWith
+in-front es s h =
+    rw (sub-zero (roomOf s), take-all (roomOf s) es h)
+    (sets-eq (words es) s 0 (unfold roomOf in omega (arith, length-words es)) ∙ rw (zero-add (length (words es))))
 
--- ---- the reading
+module _ (table message : List ℕ) {a : ReadAnswer} where
+  pub reads-whole : (store : List ℕ) {st : List ℕ} → Gives (laid (readBy (check table) table (roomOf store) message) 0 store) a st → Reads (reads table message store) store a st
+  unfolding reads laid
+  reads-whole store g = record {
+    answered = g .answered ∙ rw (zero-add (length (readBy (check table) table (roomOf store) message .made)));
+    stored = g .stored ∙ in-front (readBy (check table) table (roomOf store) message .made) store (by-few (check table) table (roomOf store) message);
+  }
 
-module _ (table message store : List ℕ) where
-  pub reads-bad : {e : Refusal} {p : ℕ} → check table ≡ Bad e p → Reads (reads table message store) store (Refused e p 0) store
-  unfolding reads readBy readAnswer storeWith words
-  reads-bad h = rw h (record { answered = refl; stored = refl })
-
-  pub reads-good : {l : Layout} {way : Way} {a : ReadAnswer} {st : List ℕ} (at : ℕ) → check table ≡ Good l → at + 4 ≡ length table → SameReading table l (l .nodes) at 1 way
-      → Gives (lay (readRounds table l 1 (way .headed) (way .from) (way .width) (front message)) 0 store) a st → Reads (reads table message store) store a st
-  unfolding reads readBy readRounds headed readRow read
-  reads-good {l} at h e f g =
-      let root = row-once (reading head) (nodeShape table l) table then-nothing at (front message)
-      ∙ ap (λ i. read (nodeShape table l i) (front message)) (root-number table h at e) in
-      rw (h, good-table table l h .its-shape) (reads-front _ store (rw (← flat-rounds f 1, root) at g))
+  pub skims-whole : (room : ℕ) (store : List ℕ) {st : List ℕ} → Gives (laid (readBy (check table) table room message) 0 store) a st → a ≡ skims table message room
+  unfolding skims laid
+  skims-whole room store g = g .answered ∙ rw (zero-add (length (readBy (check table) table room message .made)))
 
 -- ---- the rest
 
 module _ (message : List ℕ) (a : ReadAnswer) where
-  pub rest-done : {p n : ℕ} → a ≡ Done p n → take (length message - p) (drop p message) ≡ restOf message a
+  pub rest-done : {p n : ℕ} → a ≡ Done p n → {r : List ℕ} → r ≡ drop p message → r ≡ restOf message a
   unfolding restOf
-  rest-done {p} e = rw e (tail message p)
-
-  pub rest-beyond : {p n : ℕ} → a ≡ Done p n → length message < p → [] ≡ restOf message a
-  unfolding restOf
-  rest-beyond {p} e h = rw (e, drop-of-length-le message {i = p} (omega arith))
+  rest-done e h = rw e h
 
   pub rest-refused : {e : Refusal} {p n : ℕ} → a ≡ Refused e p n → [] ≡ restOf message a
   unfolding restOf
   rest-refused e = rw e
-
--- a spot that the whole reading reaches stands so many bytes behind the message's front
-reached-behind : (message : List ℕ) (es : List Entry) {o : Outcome} (x : Spot) → Stays (front message) es o → o ≡ reached x → drop (x .place) message ≡ x .bytes
-unfolding past
-reached-behind message es x (reaches {z} n l e s) h =
-    let here : x ≡ record { bytes = drop n message; place = 0 + n } = cc in rw (here, zero-add n)
-reached-behind message es x (refuses l e s) h = let z : _≡_ {A = ℕ} 0 1 = cc in absurd (omega arith)
-
-pub rest-is-left : RestIsLeft
-unfolding reads readBy restOf readAnswer
-rest-is-left table message store n x = go (check table)
-  where
-    go : (c : Checked) → readBy c table (roomOf store) message .ends ≡ reached x → drop (x .place) message ≡ x .bytes
-    go (Good l) e =
-        let run = read (shapeOf table l) (front message) in
-        let fitted = fit (roomOf store) run in
-        let free = fit-reached (roomOf store) run (fitted .made) x (ap (λ o. record { made = fitted .made; ends = o }) e) .1 in
-        reached-behind message (run .made) x (read-stays (shapeOf table l) (front message)) (ap (λ r. r .ends) free)
-    go (Bad e i) h = let z : _≡_ {A = ℕ} 0 1 = cc in absurd (omega arith)
 
 -- ---- no choice
 
@@ -115,3 +111,6 @@ one-reading table message store x y f g = ap₂ (λ a s. (a, s)) (f .answered �
 
 pub one-rest : OneRest
 one-rest message a = by-equation (restOf message a)
+
+pub one-skim : OneSkim
+one-skim table message room = by-equation (skims table message room)

@@ -1,9 +1,9 @@
--- What the cycle of calls cites: a call that is followed by more hands its refusal up, or goes on where it arrived; and a loop's end.
+-- What the cycle of calls cites: a call that is followed by more hands its refusal up, or goes on where it arrived; a loop's end; and an item.
 -- Assumes nothing.
 use mathlib.Core.Path.{_≡_, refl, sym, ap, ap₂, _∙_}
 use mathlib.Core.Bool.{Bool, false}
 use mathlib.Core.List.{List}
-use Prim.Native.Nat.{ℕ, _+_, _-_, _/_, _<_, _≤_, _^_}
+use Prim.Native.Nat.{ℕ, _+_, _-_, _<_, _≤_, _^_}
 use native.Mathlib.Omega.{arith}
 use lib.ListN.{length, take, drop}
 use Rattle.wire.specs.declared.Refusal.{Refusal}
@@ -12,28 +12,30 @@ use Rattle.wire.specs.declared.Layout.{Layout}
 use Rattle.wire.specs.declared.ReadAnswer.{ReadAnswer}
 use Rattle.wire.specs.declared.ReadAnswer.the-variants.{Done, Refused}
 use Rattle.wire.specs.Table.{u16At, kindOf, nodeAt, recordOf, shapesAt}
-use Rattle.wire.specs.Reading.{Spot, Outcome, reached, refused, Run, head, past, readThen, reading, read, fit}
-use Rattle.wire.specs.Answers.{roomOf, readAnswer}
-use Rattle.wire.specs.Walk.{times}
+use Rattle.wire.specs.Reading.{Head, Spot, Outcome, reached, refused, Run, head, past, readThen, reading, fit}
+use Rattle.wire.specs.Answers.{readAnswer}
 use Rattle.laws.specs.Bounds.{Stays, reaches}
+use Rattle.laws.specs.Heads.{Sound}
+use Rattle.laws.specs.KindRanges.{IsInner}
 use Rattle.laws.specs.Tables.{nodeCount, nodeShape, GoodTable}
 use Rattle.laws.proofs.Bounds.{read-stays, row-stays}
-use Rattle.laws.proofs.Children.{times-none, times-more, row-none, row-more}
 use Rattle.laws.proofs.Parts.{tail, length-tail}
-use Rattle.laws.proofs.Runs.{fit-reached}
+use Rattle.laws.proofs.Runs.{then-nothing, fit-reached}
 use Rattle.leaf.specs.Leaves.{takeAt}
 use Rattle.table.specs.declared.Stretch.{Stretch}
 use Rattle.table.specs.declared.Way.{Way}
+use Rattle.table.specs.Parts.{Flat, under, nodeStep, rowStep, roundsStep}
+use Rattle.table.proofs.Stretches.{row-end, row-first, rounds-end, rounds-first, flat-rounds}
 use Rattle.read_item.specs.declared.Entered.{Entered}
 use Rattle.read_item.specs.declared.Entered.the-variants.{On}
 use Rattle.read_item.specs.declared.Entered.the-variants as entered
 use Rattle.read_item.specs.Lay.{Left, laid, lay}
-use Rattle.read_item.specs.Steps.{spot, readNode, readRow, headed, readRounds, Puts, entry, same, Goes, Enters, goes, stops}
-use Rattle.read_item.proofs.Entering.{Found, number-small, leads-nowhere, enters-refused, goes-on}
+use Rattle.read_item.specs.Steps.{spot, ownOf, afterOf, Puts, entry, same, Enters, goes, stops}
+use Rattle.read_item.proofs.Laying.{lay-nothing, onBy, lay-then}
+use Rattle.read_item.proofs.Entering.{number-small, Goes, item-refused, item-goes, item-alone}
 use Rattle.read_item.proofs.Heads.{head-leaf}
 use Rattle.reader.specs.Steps.{Gives}
-use Rattle.reader.proofs.Rounds.{SameReading}
-use Rattle.reader.proofs.Laying.{gives-refused, gives-done, lay-nothing, onBy, lay-then}
+use Rattle.reader.proofs.Laying.{gives-refused, gives-done}
 
 -- ---- a call, and then more
 
@@ -48,115 +50,119 @@ pub record Went (bs : List ℕ) (at q : ℕ) : Type 0 where
   pub kept : q + length (from bs at q) ≡ at + length bs
 
 -- f is called, which stays inside its bytes, and g is left
-module _ (f g : Spot → Run) (steady : (x : Spot) → Stays x (f x .made) (f x .ends)) (w : Left) (bs : List ℕ) (at sofar : ℕ) (store : List ℕ)
-    (whole : w ≡ lay (readThen f g (spot bs at)) sofar store) (a : ReadAnswer) (st : List ℕ) (called : Gives (lay (f (spot bs at)) sofar store) a st) where
+module _ (room : ℕ) (f g : Spot → Run) (steady : (x : Spot) → Stays x (f x .made) (f x .ends)) (w : Left) (bs : List ℕ) (at sofar : ℕ) (store : List ℕ)
+    (whole : w ≡ lay room (readThen f g (spot bs at)) sofar store) (a : ReadAnswer) (st : List ℕ) (called : Gives (lay room (f (spot bs at)) sofar store) a st) where
   abbrev v : Left
-  v = lay (f (spot bs at)) sofar store
+  v = lay room (f (spot bs at)) sofar store
 
-  step : w ≡ onBy (v .ends) v g
-  step = whole ∙ lay-then f g (spot bs at) sofar store
+  step : w ≡ onBy room (v .ends) v g
+  step = whole ∙ lay-then room f g (spot bs at) sofar store
 
   pub turn-refused : {e : Refusal} {p n : ℕ} → a ≡ Refused e p n → Gives w a st
   unfolding readAnswer
   turn-refused {e} {p} {n} h = go (v .ends) (sym (called .answered) ∙ h) step
     where
-      go : (o : Outcome) → readAnswer o (v .count) ≡ Refused e p n → w ≡ onBy o v g → Gives w a st
+      go : (o : Outcome) → readAnswer o (v .count) ≡ Refused e p n → w ≡ onBy room o v g → Gives w a st
       go (reached y) q s = let z : _≡_ {A = ℕ} 0 1 = cc in absurd (omega arith)
       go (refused r i) q s = rw s called
 
-  pub turned : {q n : ℕ} → a ≡ Done q n → Went bs at q × (w ≡ lay (g (spot (from bs at q) q)) n st)
+  pub turned : {q n : ℕ} → a ≡ Done q n → Went bs at q × (w ≡ lay room (g (spot (from bs at q) q)) n st)
   unfolding readAnswer lay laid past
   turned {q} {n} h = go (v .ends) refl (sym (called .answered) ∙ h) step
     where
-      arrived : (y : Spot) → y .place ≡ q → v .count ≡ n → Stays (spot bs at) (f (spot bs at) .made) (reached y) → w ≡ lay (g y) (v .count) (v .store)
-          → Went bs at q × (w ≡ lay (g (spot (from bs at q) q)) n st)
+      arrived : (y : Spot) → y .place ≡ q → v .count ≡ n → Stays (spot bs at) (f (spot bs at) .made) (reached y) → w ≡ lay room (g y) (v .count) (v .store)
+          → Went bs at q × (w ≡ lay room (g (spot (from bs at q) q)) n st)
       arrived y p c (reaches u l e t) s =
           let here : y .place ≡ at + u = ap (λ z. z .place) e in
           let back : u ≡ q - at = omega arith in
           let there : y ≡ spot (from bs at q) q = ap₂ spot (ap (λ z. z .bytes) e ∙ ap (λ k. drop k bs) back ∙ sym (tail bs (q - at))) p in
           (record { up = omega arith; inside = omega arith; kept = omega (arith, length-tail bs (q - at)) }, s ∙ rw (there, c, ← (called .stored)))
 
-      go : (o : Outcome) → v .ends ≡ o → readAnswer o (v .count) ≡ Done q n → w ≡ onBy o v g → Went bs at q × (w ≡ lay (g (spot (from bs at q) q)) n st)
+      go : (o : Outcome) → v .ends ≡ o → readAnswer o (v .count) ≡ Done q n → w ≡ onBy room o v g → Went bs at q × (w ≡ lay room (g (spot (from bs at q) q)) n st)
       go (refused r i) e j s = let z : _≡_ {A = ℕ} 0 1 = cc in absurd (omega arith)
       go (reached y) e j s =
-          let run = fit (roomOf store - sofar) (f (spot bs at)) in
-          let free = fit-reached (roomOf store - sofar) (f (spot bs at)) (run .made) y (ap (λ o. record { made = run .made; ends = o }) e) .1 in
+          let run = fit (room - sofar) (f (spot bs at)) in
+          let free = fit-reached (room - sofar) (f (spot bs at)) (run .made) y (ap (λ o. record { made = run .made; ends = o }) e) .1 in
           let p : y .place ≡ q = cc in
           let c : v .count ≡ n = cc in
           arrived y p c (rw (ap (λ r. r .ends) free) at (steady (spot bs at))) s
 
 -- ---- one node after the other, and one round after the other
 
--- a way that reads the same, so often
-pub flat-rounds : {s : List ℕ} {l : Layout} {i at n : ℕ} {way : Way} → SameReading s l i at n way → (c : ℕ)
-    → readRounds s l c false at n ≡ readRounds s l c (way .headed) (way .from) (way .width)
-unfolding readRounds headed
-flat-rounds f c = ap (times (reading head) c) (f .same)
+module _ (h : Head) (room : ℕ) (s : List ℕ) (l : Layout) (at n : ℕ) (w : Left) (bs : List ℕ) (p sofar : ℕ) (store : List ℕ) where
+  module _ (whole : w ≡ lay room (rowStep (reading h) s l at n (spot bs p)) sofar store) where
+    pub row-done : n ≤ 0 → Gives w (Done p sofar) store
+    row-done e = gives-done (spot bs p) (whole ∙ rw (row-end (reading h) s l at n (spot bs p) e) (lay-nothing room (spot bs p) sofar store))
 
-module _ (s : List ℕ) (l : Layout) (at n : ℕ) (w : Left) (bs : List ℕ) (p sofar : ℕ) (store : List ℕ)
-    (whole : w ≡ lay (readRow s l at n (spot bs p)) sofar store) where
-  pub row-end : n ≤ 0 → Gives w (Done p sofar) store
-  unfolding readRow
-  row-end h = gives-done (spot bs p) (whole ∙ rw (row-none (reading head) (nodeShape s l) s at n (spot bs p) h) (lay-nothing (spot bs p) sofar store))
+    pub row-turn : 0 < n → (i : ℕ) → i ≡ u16At s at → w ≡ lay room (readThen (nodeStep (reading h) s l i) (rowStep (reading h) s l (at + 2) (n - 1)) (spot bs p)) sofar store
+    row-turn e i q = whole ∙ rw (row-first (reading h) s l at n (spot bs p) e i q)
 
-  pub row-first : 0 < n → (i : ℕ) → i ≡ u16At s at → w ≡ lay (readThen (readNode s l i) (readRow s l (at + 2) (n - 1)) (spot bs p)) sofar store
-  unfolding readRow readNode read
-  row-first h i e = whole ∙ rw (row-more (reading head) (nodeShape s l) s at n (spot bs p) h, e)
+  module _ (c : ℕ) (b : Bool) (whole : w ≡ lay room (roundsStep (reading h) s l c b at n (spot bs p)) sofar store) where
+    pub rounds-done : c ≤ 0 → Gives w (Done p sofar) store
+    rounds-done e = gives-done (spot bs p) (whole ∙ rw (rounds-end (reading h) s l c b at n (spot bs p) e) (lay-nothing room (spot bs p) sofar store))
 
-module _ (s : List ℕ) (l : Layout) (c : ℕ) (h : Bool) (at n : ℕ) (w : Left) (bs : List ℕ) (p sofar : ℕ) (store : List ℕ)
-    (whole : w ≡ lay (readRounds s l c h at n (spot bs p)) sofar store) where
-  pub rounds-end : c ≤ 0 → Gives w (Done p sofar) store
-  unfolding readRounds
-  rounds-end e = gives-done (spot bs p) (whole ∙ rw (times-none (reading head) (headed h (readRow s l at n)) c (spot bs p) e) (lay-nothing (spot bs p) sofar store))
-
-  pub rounds-first : 0 < c → w ≡ lay (readThen (headed h (readRow s l at n)) (readRounds s l (c - 1) h at n) (spot bs p)) sofar store
-  unfolding readRounds
-  rounds-first e = whole ∙ rw (times-more (reading head) (headed h (readRow s l at n)) c (spot bs p) e)
-
--- ---- an item that was entered
-
-module _ {w : Left} {s : List ℕ} {l : Layout} {i : ℕ} {x : Spot} {m : ℕ} {r : Entered} {st : List ℕ} (e : Enters w s l i x m r st) where
-  pub item-goes : {to : Stretch} {u : ℕ} → r ≡ On to u → Goes w s l i x m to u st
-  item-goes {to} {u} h = go (rw h at e)
-    where
-      go : Enters w s l i x m (On to u) st → Goes w s l i x m to u st
-      go (goes g) = g
-
-  pub item-refused : {y : Refusal} → r ≡ entered.Refused y → Gives w (Refused y (x .place) m) st
-  item-refused {y} h = go (rw h at e)
-    where
-      go : Enters w s l i x m (entered.Refused y) st → Gives w (Refused y (x .place) m) st
-      go (stops q) = gives-refused q
-
-module _ {w : Left} {s : List ℕ} {l : Layout} {i : ℕ} {bs : List ℕ} {p m : ℕ} {to : Stretch} {u : ℕ} {st : List ℕ}
-    (g : Goes w s l i (spot bs p) m to u st) where
-  pub item-end : to .rounds ≡ 0 → Gives w (Done (p + u) (m + 1)) st
-  unfolding past
-  item-end e = rounds-end s l (to .rounds) false (to .from) (to .width) w (drop u bs) (p + u) (m + 1) st (g .rest) (omega arith)
-
-  pub item-on : {way : Way} {a : ReadAnswer} {left : List ℕ} → SameReading s l i (to .from) (to .width) way
-      → Gives (lay (readRounds s l (to .rounds) (way .headed) (way .from) (way .width) (spot (take (length bs - u) (drop u bs)) (p + u))) (m + 1) st) a left → Gives w a left
-  unfolding past
-  item-on f h = rw (g .rest, flat-rounds f (to .rounds)) (rw (tail bs u) at h)
-
--- a leaf that was read: nothing follows it
-module _ (s : List ℕ) (l : Layout) (i : ℕ) (g : GoodTable s l) (h : i < l .nodes) (bs : List ℕ) (p k : ℕ) where
-  pub leaf-gives : k ≡ nodeAt s (recordOf l i) .number → (15 ≤ k → k ≤ 19 → ⊥) → p + length bs < 2 ^ 64 → (m : ℕ) (store : List ℕ) → m < length store / 2
-      → {a : ReadAnswer} {st : List ℕ} → Puts p m store (takeAt k p bs) a st → Gives (lay (readNode s l i (spot bs p)) m store) a st
-  leaf-gives e outer fits m store room = go _ (head-leaf _ p bs k outer (number-small s l i g h k e) fits)
-    where
-      f : Found s l i k (nodeCount (nodeAt s (recordOf l i)))
-      f = record { kind = e; count = refl }
-
-      go : (own : Item) → own ≡ head (kindOf k) (nodeCount (nodeAt s (recordOf l i))) p bs → {a : ReadAnswer} {st : List ℕ} → Puts p m store own a st → Gives (lay (readNode s l i (spot bs p)) m store) a st
-      go own found (entry {a}) = item-end (goes-on s l i g h bs p k _ own f found m store room _ _ refl (leads-nowhere s l i g h k a outer) refl) refl
-      go own found same = gives-refused (enters-refused s l i g h bs p k _ own f found m store room refl)
+    pub rounds-turn : 0 < c → w ≡ lay room (readThen (under (reading h) b n (rowStep (reading h) s l at n)) (roundsStep (reading h) s l (c - 1) b at n) (spot bs p)) sofar store
+    rounds-turn e = whole ∙ rw (rounds-first (reading h) s l c b at n (spot bs p) e)
 
 -- both stay inside their bytes
-pub node-steady : (s : List ℕ) (l : Layout) (i : ℕ) (x : Spot) → Stays x (readNode s l i x .made) (readNode s l i x .ends)
-unfolding readNode
-node-steady s l i = read-stays (nodeShape s l i)
+module _ {h : Head} (sound : Sound h) (s : List ℕ) (l : Layout) where
+  pub node-steady : (i : ℕ) (x : Spot) → Stays x (nodeStep (reading h) s l i x .made) (nodeStep (reading h) s l i x .ends)
+  unfolding nodeStep
+  node-steady i = read-stays sound (nodeShape s l i)
 
-pub row-steady : (s : List ℕ) (l : Layout) (at n : ℕ) (x : Spot) → Stays x (readRow s l at n x .made) (readRow s l at n x .ends)
-unfolding readRow
-row-steady s l at n = row-stays (shapesAt (nodeShape s l) s at n)
+  pub row-steady : (at n : ℕ) (x : Spot) → Stays x (rowStep (reading h) s l at n x .made) (rowStep (reading h) s l at n x .ends)
+  unfolding rowStep
+  row-steady at n = row-stays sound (shapesAt (nodeShape s l) s at n)
+
+-- ---- an item
+
+module _ (h : Head) (room : ℕ) {s : List ℕ} {l : Layout} {i : ℕ} (g : GoodTable s l) (below : i < l .nodes) (bs : List ℕ) (p m : ℕ) (store : List ℕ) (some : m < room) where
+  -- one that was entered
+  module _ {r : Entered} {st : List ℕ} (e : Enters l i (nodeAt s (recordOf l i)) p m store (ownOf h (nodeAt s (recordOf l i)) (spot bs p)) r st) where
+    pub entered-refused : {y : Refusal} → r ≡ entered.Refused y → Gives (lay room (nodeStep (reading h) s l i (spot bs p)) m store) (Refused y p m) st
+    entered-refused {y} = go refl e
+      where
+        go : {own : Item} {q : Entered} {t : List ℕ} → ownOf h (nodeAt s (recordOf l i)) (spot bs p) ≡ own → Enters l i (nodeAt s (recordOf l i)) p m store own q t
+            → q ≡ entered.Refused y → Gives (lay room (nodeStep (reading h) s l i (spot bs p)) m store) (Refused y p m) t
+        go o (stops {e = x}) k = let same : x ≡ y = cc in rw (← same) (gives-refused (item-refused h room g below (spot bs p) m store some o))
+        go o goes k = let z : _≡_ {A = ℕ} 0 1 = cc in absurd (omega arith)
+
+    pub entered-on : Sound h → {to : Stretch} {u : ℕ} → r ≡ On to u → Goes h room (lay room (nodeStep (reading h) s l i (spot bs p)) m store) s l i (spot bs p) m to u st
+    entered-on sound {to} {u} = go refl e
+      where
+        go : {own : Item} {q : Entered} {t : List ℕ} → ownOf h (nodeAt s (recordOf l i)) (spot bs p) ≡ own → Enters l i (nodeAt s (recordOf l i)) p m store own q t
+            → q ≡ On to u → Goes h room (lay room (nodeStep (reading h) s l i (spot bs p)) m store) s l i (spot bs p) m to u t
+        go o stops k = let z : _≡_ {A = ℕ} 0 1 = cc in absurd (omega arith)
+        go o (goes {a} {n = v}) k =
+            let way : afterOf l i (nodeAt s (recordOf l i)) a ≡ to = cc in
+            let used : v ≡ u = cc in
+            rw (← way, ← used) (item-goes h room g below (spot bs p) m store some sound o)
+
+  -- a leaf that was read
+  pub leaf-gives : (k : ℕ) → k ≡ nodeAt s (recordOf l i) .number → (IsInner k → ⊥) → {own : Item} → ownOf h (nodeAt s (recordOf l i)) (spot bs p) ≡ own → {a : ReadAnswer} {st : List ℕ} → Puts p m store own a st
+      → Gives (lay room (nodeStep (reading h) s l i (spot bs p)) m store) a st
+  unfolding past
+  leaf-gives k e outer o (entry {n = n}) = gives-done (past n (spot bs p)) (item-alone h room g below (spot bs p) m store some (rw e at outer) o)
+  leaf-gives k e outer o same = gives-refused (item-refused h room g below (spot bs p) m store some o)
+
+module _ {h : Head} {room : ℕ} {w : Left} {s : List ℕ} {l : Layout} {i : ℕ} {bs : List ℕ} {p m : ℕ} {to : Stretch} {u : ℕ} {st : List ℕ}
+    (g : Goes h room w s l i (spot bs p) m to u st) where
+  pub goes-done : to .rounds ≡ 0 → Gives w (Done (p + u) (m + 1)) st
+  unfolding past
+  goes-done e = rounds-done h room s l (to .from) (to .width) w (drop u bs) (p + u) (m + 1) st (to .rounds) false (g .rest) (omega arith)
+
+  -- by the fields of the one struct that follows
+  pub goes-on : GoodTable s l → i ≤ l .nodes → {way : Way} → Flat s l i (to .from) (to .width) way → {a : ReadAnswer} {left : List ℕ}
+      → Gives (lay room (roundsStep (reading h) s l (to .rounds) (way .headed) (way .from) (way .width) (spot (take (length bs - u) (drop u bs)) (p + u))) (m + 1) st) a left → Gives w a left
+  unfolding past
+  goes-on good few flat r = rw (g .rest, flat-rounds good few (reading h) then-nothing flat (to .rounds)) (rw (tail bs u) at r)
+
+-- ---- with wire's own head
+
+-- a leaf's item is the node's
+pub leaf-own : {s : List ℕ} {l : Layout} {i : ℕ} → GoodTable s l → i < l .nodes → (bs : List ℕ) (p k : ℕ) → k ≡ nodeAt s (recordOf l i) .number → (IsInner k → ⊥) → p + length bs < 2 ^ 64
+    → ownOf head (nodeAt s (recordOf l i)) (spot bs p) ≡ takeAt k p bs
+unfolding ownOf
+leaf-own {s} {l} {i} g below bs p k e outer fits =
+    let r = nodeAt s (recordOf l i) in
+    sym (head-leaf (nodeCount r) p bs k outer (number-small g below k e) fits ∙ ap (λ q. head (kindOf q) (nodeCount r) p bs) e)

@@ -1,3 +1,3 @@
--- What the contracts of the cycle cite, and what is promised of the public calls.
+-- What the contracts of the cycle cite, and that the public ones leave no choice.
 pub mod Steps
 pub mod Promise

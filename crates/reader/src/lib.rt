@@ -5,15 +5,17 @@ use wire::Layout;
 use wire::ReadAnswer;
 use wire::Refusal;
 ghost use mathlib.Core.Path.{_≡_};
-ghost use Prim.Native.Nat.{_+_, _/_, _^_, _<_, _≤_};
+ghost use Prim.Native.Nat.{_+_, _^_, _<_, _≤_};
 ghost use lib.ListN.{length};
-ghost use Rattle.wire.specs.Answers.{reads, restOf};
+ghost use Rattle.wire.specs.Table.{check as checkOf};
+ghost use Rattle.wire.specs.Reading.{head, reading};
+ghost use Rattle.wire.specs.Answers.{readBy, reads, skims, restOf};
+ghost use Rattle.laws.specs.Answered.{Reads};
 ghost use Rattle.laws.specs.Tables.{GoodTable};
-ghost use Rattle.table.specs.Parts.{Falls};
-ghost use Rattle.read_item.specs.Lay.{lay};
-ghost use Rattle.read_item.specs.Steps.{spot, readNode, readRow, readRounds, Inner};
+ghost use Rattle.table.specs.Parts.{Falls, nodeStep, rowStep, roundsStep};
+ghost use Rattle.read_item.specs.Lay.{laid, lay};
+ghost use Rattle.read_item.specs.Steps.{spot, Inner};
 ghost use Rattle.reader.specs.Steps.{Gives, Begins};
-ghost use Rattle.reader.specs.Promise.{Reads};
 
 // ---- rounds
 
@@ -23,17 +25,16 @@ enum Begun {
     Full,
 }
 
-fn begin(headed: bool, store: &mut [u64], made: usize) -> Begun
-    ensures { λ r. ⌜ Begins headed (now (store .entry)) made r (now (store .exit)) ⌝ }
+fn begin(headed: bool, room: usize, store: &mut [u64], made: usize) -> Begun
+    ensures { λ r. ⌜ Begins room headed (now (store .entry)) made r (now (store .exit)) ⌝ }
 {
     if headed {
-        let room = store.len() / 2;
-        if room <= made {
-            return Begun::Full;
+        if made < room {
+            entry::put(store, made, 0, 0);
+            let ready = made + 1;
+            return Begun::At { made: ready };
         }
-        read_item::put_entry(store, made, 0, 0);
-        let next = made + 1;
-        return Begun::At { made: next };
+        return Begun::Full;
     }
     Begun::At { made }
 }
@@ -47,15 +48,16 @@ fn read_item(
     node: usize,
     part: &[u8],
     place: usize,
+    room: usize,
     store: &mut [u64],
     made: usize,
 ) -> ReadAnswer
     requires { ⌜ GoodTable (now table) l ⌝ }
     requires { ⌜ node < l .nodes ⌝ }
     requires { ⌜ place + length (now part) < 2 ^ 64 ⌝ }
-    ensures { λ r. ⌜ Gives (lay (readNode (now (table .entry)) l node (spot (now (part .entry)) place)) made (now (store .entry))) r (now (store .exit)) ⌝ }
+    ensures { λ r. ⌜ Gives (lay room (nodeStep (reading head) (now (table .entry)) l node (spot (now (part .entry)) place)) made (now (store .entry))) r (now (store .exit)) ⌝ }
 {
-    if store.len() / 2 <= made {
+    if room <= made {
         return ReadAnswer::Refused {
             why: Refusal::Room,
             place,
@@ -63,10 +65,22 @@ fn read_item(
         };
     }
     let number = table::kind_at(table, l, node);
-    match number {
-        15..=19 => read_inner(table, l, node, number, part, place, store, made),
-        _ => read_item::read_leaf(number, part, place, store, made),
+    if table::is_inner(number) {
+        let got = read_inner(table, l, node, number, part, place, room, store, made);
+        // Made anew, so that a leaf's answer does not go through memory with this one.
+        let ReadAnswer::Done {
+            place: behind,
+            count,
+        } = got
+        else {
+            return got;
+        };
+        return ReadAnswer::Done {
+            place: behind,
+            count,
+        };
     }
+    read_item::read_leaf(number, part, place, store, made)
 }
 
 // An item that has children. It is apart from `read_item`, so that only here everything is laid out for the call in a cycle.
@@ -77,15 +91,16 @@ fn read_inner(
     number: u8,
     part: &[u8],
     place: usize,
+    room: usize,
     store: &mut [u64],
     made: usize,
 ) -> ReadAnswer
     requires { ⌜ GoodTable (now table) l ⌝ }
     requires { ⌜ node < l .nodes ⌝ }
     requires { ⌜ Inner (now table) l node number ⌝ }
-    requires { ⌜ made < length (now store) / 2 ⌝ }
+    requires { ⌜ made < room ⌝ }
     requires { ⌜ place + length (now part) < 2 ^ 64 ⌝ }
-    ensures { λ r. ⌜ Gives (lay (readNode (now (table .entry)) l node (spot (now (part .entry)) place)) made (now (store .entry))) r (now (store .exit)) ⌝ }
+    ensures { λ r. ⌜ Gives (lay room (nodeStep (reading head) (now (table .entry)) l node (spot (now (part .entry)) place)) made (now (store .entry))) r (now (store .exit)) ⌝ }
 {
     let entered = read_item::enter(table, l, node, number, part, place, store, made);
     match entered {
@@ -114,6 +129,7 @@ fn read_inner(
                 way.width,
                 &part[used..],
                 after,
+                room,
                 store,
                 next,
             )
@@ -131,6 +147,7 @@ fn read_rounds(
     width: usize,
     part: &[u8],
     place: usize,
+    room: usize,
     store: &mut [u64],
     made: usize,
 ) -> ReadAnswer
@@ -138,14 +155,14 @@ fn read_rounds(
     requires { ⌜ node ≤ l .nodes ⌝ }
     requires { ⌜ Falls (now table) from width node ⌝ }
     requires { ⌜ place + length (now part) < 2 ^ 64 ⌝ }
-    ensures { λ r. ⌜ Gives (lay (readRounds (now (table .entry)) l rounds headed from width (spot (now (part .entry)) place)) made (now (store .entry))) r (now (store .exit)) ⌝ }
+    ensures { λ r. ⌜ Gives (lay room (roundsStep (reading head) (now (table .entry)) l rounds headed from width (spot (now (part .entry)) place)) made (now (store .entry))) r (now (store .exit)) ⌝ }
 {
     let mut rest = part;
     let mut at = place;
     let mut sofar = made;
     let mut left = rounds;
     while 0 < left {
-        let begun = begin(headed, store, sofar);
+        let begun = begin(headed, room, store, sofar);
         let Begun::At { made: ready } = begun else {
             return ReadAnswer::Refused {
                 why: Refusal::Room,
@@ -153,7 +170,7 @@ fn read_rounds(
                 count: sofar,
             };
         };
-        let got = read_stretch(table, l, node, from, width, rest, at, store, ready);
+        let got = read_stretch(table, l, node, from, width, rest, at, room, store, ready);
         let ReadAnswer::Done {
             place: next,
             count: more,
@@ -181,6 +198,7 @@ fn read_stretch(
     width: usize,
     part: &[u8],
     place: usize,
+    room: usize,
     store: &mut [u64],
     made: usize,
 ) -> ReadAnswer
@@ -188,7 +206,7 @@ fn read_stretch(
     requires { ⌜ node ≤ l .nodes ⌝ }
     requires { ⌜ Falls (now table) from width node ⌝ }
     requires { ⌜ place + length (now part) < 2 ^ 64 ⌝ }
-    ensures { λ r. ⌜ Gives (lay (readRow (now (table .entry)) l from width (spot (now (part .entry)) place)) made (now (store .entry))) r (now (store .exit)) ⌝ }
+    ensures { λ r. ⌜ Gives (lay room (rowStep (reading head) (now (table .entry)) l from width (spot (now (part .entry)) place)) made (now (store .entry))) r (now (store .exit)) ⌝ }
 {
     let mut rest = part;
     let mut at = place;
@@ -197,7 +215,7 @@ fn read_stretch(
     let mut left = width;
     while 0 < left {
         let c = table::u16_at(table, child);
-        let got = read_item(table, l, c, rest, at, store, sofar);
+        let got = read_item(table, l, c, rest, at, room, store, sofar);
         let ReadAnswer::Done {
             place: next,
             count: more,
@@ -220,9 +238,9 @@ fn read_stretch(
 
 // ---- the public calls
 
-// Reads a message by a table: where it ends or why it is refused, and the entries made, which stand in front in the store.
-pub fn read(table: &[u8], message: &[u8], store: &mut [u64]) -> ReadAnswer
-    ensures { λ r. ⌜ Reads (reads (now (table .entry)) (now (message .entry)) (now (store .entry))) (now (store .entry)) r (now (store .exit)) ⌝ }
+// A reading with room for so many entries, which are stored where the store has words for them.
+fn read_with(table: &[u8], message: &[u8], room: usize, store: &mut [u64]) -> ReadAnswer
+    ensures { λ r. ⌜ Gives (laid (readBy (checkOf (now (table .entry))) (now (table .entry)) room (now (message .entry))) 0 (now (store .entry))) r (now (store .exit)) ⌝ }
 {
     let checked = table::check(table);
     match checked {
@@ -244,6 +262,7 @@ pub fn read(table: &[u8], message: &[u8], store: &mut [u64]) -> ReadAnswer
                 way.width,
                 message,
                 0,
+                room,
                 store,
                 0,
             )
@@ -251,18 +270,28 @@ pub fn read(table: &[u8], message: &[u8], store: &mut [u64]) -> ReadAnswer
     }
 }
 
+// Reads a message by a table: where it ends or why it is refused, and the entries made, which stand in front in the store.
+pub fn read(table: &[u8], message: &[u8], store: &mut [u64]) -> ReadAnswer
+    ensures { λ r. ⌜ Reads (reads (now (table .entry)) (now (message .entry)) (now (store .entry))) (now (store .entry)) r (now (store .exit)) ⌝ }
+{
+    let room = entry::room(store.len());
+    read_with(table, message, room, store)
+}
+
+// What a read answers with a store that has room for so many entries, where none is at hand.
+pub fn skim(table: &[u8], message: &[u8], room: usize) -> ReadAnswer
+    ensures { λ r. ⌜ r ≡ skims (now (table .entry)) (now (message .entry)) room ⌝ }
+{
+    let mut words: [u64; 1] = [0; 1];
+    read_with(table, message, room, &mut words[0..0])
+}
+
 // The unread bytes, from the same message and its answer.
 pub fn rest<'a>(message: &'a [u8], answer: ReadAnswer) -> &'a [u8]
     ensures { λ r. ⌜ now r ≡ restOf (now (message .entry)) answer ⌝ }
 {
     match answer {
-        ReadAnswer::Done { place, count: _ } => {
-            if place <= message.len() {
-                &message[place..]
-            } else {
-                &message[0..0]
-            }
-        }
+        ReadAnswer::Done { place, count: _ } => { tail::from(message, place) }
         ReadAnswer::Refused {
             why: _,
             place: _,

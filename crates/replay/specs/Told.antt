@@ -1,15 +1,12 @@
 -- The three numbers that an answer of any kind begins with in a list.
 -- Assumes nothing.
 use mathlib.Core.Path.{_≡_}
-use mathlib.Core.Bool.{Bool, true, false}
 use Prim.Native.Nat.{ℕ}
-use Rattle.wire.specs.declared.Side.{Side}
-use Rattle.wire.specs.declared.Side.the-variants.{Old, New}
 use Rattle.wire.specs.declared.ReadAnswer.{ReadAnswer}
 use Rattle.wire.specs.declared.ReadAnswer.the-variants.{Done as Read, Refused as NotRead}
 use Rattle.wire.specs.declared.AskAnswer.{AskAnswer}
 use Rattle.wire.specs.declared.AskAnswer.the-variants.{Says, Refused as NotAsked}
-use Rattle.wire.specs.Answers.{Numbered}
+use Rattle.wire.specs.Answers.{sideNumber, yesNumber, Numbered}
 use Rattle.replay.specs.declared.compare.Told.{Told}
 
 -- document 01's number and place, and a third number
@@ -23,15 +20,7 @@ unfoldable pub made : ReadAnswer → ℕ
 made (Read p n) = n
 made (NotRead e p n) = n
 
-abbrev pub sideNumber : Side → ℕ
-sideNumber Old = 0
-sideNumber New = 1
-
-abbrev pub bit : Bool → ℕ
-bit false = 0
-bit true = 1
-
 -- 1 for yes, 0 for no; on a refusal 0 for the old table, 1 for the new one
 unfoldable pub which : AskAnswer → ℕ
-which (Says y) = bit y
+which (Says y) = yesNumber y
 which (NotAsked t e i) = sideNumber t

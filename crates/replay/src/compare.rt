@@ -2,15 +2,12 @@
 // the order of a record's parts.
 use recorded::field;
 use recorded::memory;
-use say::number;
 use wire::AskAnswer;
 use wire::ReadAnswer;
-use wire::Side;
 use wire::TakeAnswer;
 use wire::WriteAnswer;
-ghost use mathlib.Core.Path.{_≡_};
 ghost use Rattle.wire.specs.Answers.{readSays, writeSays, askSays, takeSays};
-ghost use Rattle.replay.specs.Told.{sideNumber, Tells, made, which};
+ghost use Rattle.replay.specs.Told.{Tells, made, which};
 
 // The room for the words of a store or a value list, for the bytes of an output and of an accumulator.
 const WORDS: usize = 512;
@@ -73,7 +70,7 @@ fn read_told(answer: ReadAnswer) -> Told
             third: count as u64,
         },
         ReadAnswer::Refused { why, place, count } => Told {
-            number: number(why),
+            number: numbers::refusal(why),
             second: place as u64,
             third: count as u64,
         },
@@ -116,7 +113,7 @@ fn write_told(answer: WriteAnswer) -> Told
             third: 0,
         },
         WriteAnswer::Refused { why, place } => Told {
-            number: number(why),
+            number: numbers::refusal(why),
             second: place as u64,
             third: 0,
         },
@@ -159,15 +156,6 @@ fn write_agrees(record: &[u8]) -> bool {
 
 // ---- the append question
 
-fn side_number(side: Side) -> u64
-    ensures { λ r. ⌜ r ≡ sideNumber side ⌝ }
-{
-    match side {
-        Side::Old => 0,
-        Side::New => 1,
-    }
-}
-
 fn ask_told(answer: AskAnswer) -> Told
     ensures { λ r. ⌜ Tells (askSays answer) (which answer) r ⌝ }
 {
@@ -175,12 +163,12 @@ fn ask_told(answer: AskAnswer) -> Told
         AskAnswer::Says { yes } => Told {
             number: 0,
             second: 0,
-            third: yes as u64,
+            third: numbers::yes(yes),
         },
         AskAnswer::Refused { side, why, place } => Told {
-            number: number(why),
+            number: numbers::refusal(why),
             second: place as u64,
-            third: side_number(side),
+            third: numbers::side(side),
         },
     }
 }
@@ -216,14 +204,14 @@ fn feed_agrees(record: &[u8]) -> bool {
     let answer = step.answer;
     let used = step.used;
     let told = Told {
-        number: accumulator::number(answer),
+        number: numbers::feed(answer),
         second: step.idx as u64,
         third: step.len as u64,
     };
     if !tells(record, told) {
         return false;
     }
-    if !check::same(deserializer::rest_at(chunk, used), field::part(record, 6)) {
+    if !check::same(tail::from(chunk, used), field::part(record, 6)) {
         return false;
     }
     holds(record, &array, &message)
@@ -245,7 +233,7 @@ fn take_told(answer: TakeAnswer, behind: usize) -> Told
             third: behind as u64,
         },
         TakeAnswer::Refused { why, place } => Told {
-            number: number(why),
+            number: numbers::refusal(why),
             second: place as u64,
             third: behind as u64,
         },
@@ -283,10 +271,7 @@ fn take_agrees(record: &[u8]) -> bool {
     if !is_entry(record, answer) {
         return false;
     }
-    check::same(
-        deserializer::rest_at(message, behind),
-        field::part(record, 7),
-    )
+    check::same(tail::from(message, behind), field::part(record, 7))
 }
 
 // ---- any record

@@ -53,9 +53,7 @@ fn read_back(table: &[u8], message: &[u8]) {
             say_entries(&store, count);
             say(b"\nrest:");
             say_line(reader::rest(message, answer));
-            if count <= store.len() / 2 {
-                write_again(table, &store[..2 * count], message);
-            }
+            write_again(table, entry::front(&store, count), message);
         }
     }
 }

@@ -4,7 +4,6 @@ use wire::Refusal;
 ghost use mathlib.Core.Path.{_≡_};
 ghost use Prim.Native.Nat.{_≤_};
 ghost use lib.ListN.{length, take};
-ghost use Rattle.wire.specs.Answers.{refusalNumber};
 
 pub fn say(text: &[u8]) {
     io::write_all(STDOUT_FILENO, text);
@@ -41,10 +40,10 @@ fn say_entry(first: u64, second: u64) {
 pub fn say_entries(store: &[u64], count: usize) {
     let mut i = 0;
     while i < count {
-        if store.len() / 2 <= i {
+        if entry::room(store.len()) <= i {
             return;
         }
-        say_entry(store[2 * i], store[2 * i + 1]);
+        say_entry(entry::first(store, i), entry::second(store, i));
         i += 1;
     }
 }
@@ -127,29 +126,9 @@ pub fn say_with(text: &[u8], n: u64) {
     }
 }
 
-// Document 01's number of a refusal.
-pub fn number(why: Refusal) -> u64
-    ensures { λ r. ⌜ r ≡ refusalNumber why ⌝ }
-{
-    match why {
-        Refusal::Trailer => 1,
-        Refusal::Record => 2,
-        Refusal::End => 3,
-        Refusal::BadVarint => 4,
-        Refusal::BadBool => 5,
-        Refusal::BadChar => 6,
-        Refusal::BadUtf8 => 7,
-        Refusal::BadOption => 8,
-        Refusal::Variant => 9,
-        Refusal::Room => 10,
-        Refusal::Values => 11,
-        Refusal::Full => 12,
-    }
-}
-
 // A refusal's number and its words, and a text with its place.
 pub fn say_why(why: Refusal, text: &[u8], place: usize) {
-    let n = number(why);
+    let n = numbers::refusal(why);
     say_with(b"#, ", n);
     let names =
         b";the trailer is not good;a record is not good;the message ends inside an item;bad varint;bad bool;bad char;\

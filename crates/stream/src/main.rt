@@ -17,7 +17,7 @@ fn say_counted(text: &[u8], n: usize) {
 
 fn say_answer(answer: FeedAnswer) {
     say(b"  ");
-    say_number(accumulator::number(answer));
+    say_number(numbers::feed(answer));
     match answer {
         FeedAnswer::Consumed => say(b" consumed"),
         FeedAnswer::OverFull => say(b" over-full"),

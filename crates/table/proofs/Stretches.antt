@@ -1,25 +1,22 @@
 -- Stretches of children's numbers: those of a good table's nodes fall, and a walk over what follows an item goes through a stretch so often.
 -- Assumes nothing.
 use mathlib.Core.Path.{_≡_, refl, ap, fun-ext, _∙_}
-use mathlib.Core.Bool.{true}
+use mathlib.Core.Bool.{Bool, true, false}
 use mathlib.Core.List.{List}
-use Prim.Native.Nat.{ℕ, zero, suc, _+_, _-_, _*_, _<_, _≤_}
+use Prim.Native.Nat.{ℕ, suc, _+_, _-_, _*_, _<_, _≤_}
 use native.Mathlib.Nat.{add-zero}
 use native.Mathlib.Omega.{arith}
 use lib.ListN.{length}
 use borrow.Author.Tests.{ltb-true}
 use Rattle.wire.specs.declared.Layout.{Layout}
-use Rattle.wire.specs.declared.Checked.{Checked}
-use Rattle.wire.specs.declared.Checked.the-variants.{Good, Bad}
-use Rattle.wire.specs.Shape.{Kind, struct, Shape}
+use Rattle.wire.specs.declared.Checked.the-variants.{Good}
+use Rattle.wire.specs.Shape.{Kind, struct}
 use Rattle.wire.specs.Walk.{Follow, each, only, following, isKnown, Walk, Step, all, times, along, walk, walks}
-use Rattle.wire.specs.Table.{u16At, layoutAt, kinds, kindOf, Node, nodeAt, recordOf, firstChild, childCount, shapesAt, checkFrom, checkAt, check}
-use Rattle.laws.specs.Steps.{row}
+use Rattle.wire.specs.Table.{u16At, kinds, kindOf, Node, nodeAt, recordOf, firstChild, childCount, shapesAt, check}
 use Rattle.laws.specs.Tables.{nodeFirst, nodeCount, nodeShape, GoodTable}
-use Rattle.laws.proofs.Splits.{of-given}
 use Rattle.laws.proofs.Tables.{next-place, good-table}
-use Rattle.laws.proofs.Children.{only-once, walk-node}
-use Rattle.table.specs.Parts.{followed, Falls, fieldsOf, Flat, bare, alone, under}
+use Rattle.laws.proofs.Children.{times-none, times-more, row-none, row-more, row-once, only-once, walk-node}
+use Rattle.table.specs.Parts.{followed, Falls, fieldsOf, Flat, bare, alone, under, nodeStep, rowStep, roundsStep, EndsBare}
 use Rattle.table.specs.declared.Way.{Way}
 
 -- ---- numbers that fall
@@ -45,13 +42,40 @@ node-falls {i} g h = let n = g .node-good i h in record { inside = omega (arith,
 
 -- ---- a walk over them
 
-pub along-followed : (w : Walk) → ((g : Step w) (x : w .From) → w .then g (w .nothing) x ≡ g x)
-    → (f : ℕ → Shape) (s : List ℕ) (way : Follow) (from n : ℕ) → isKnown way n ≡ true → (x : w .From)
-    → along w way (walks w (shapesAt f s from n)) x
-    ≡ times w (followed way from n .rounds) (row w (shapesAt f s (followed way from n .from) (followed way from n .width))) x
-unfolding along followed isKnown
-along-followed w then-nothing f s (each c) from n k x = refl
-along-followed w then-nothing f s (only v) from n k x = only-once w f s then-nothing from n v (ltb-true v n k) x
+module _ (w : Walk) (s : List ℕ) (l : Layout) where
+  -- nodes one after the other: none, or the first one and the others
+  module _ (from n : ℕ) (x : w .From) where
+    pub row-end : n ≤ 0 → rowStep w s l from n x ≡ w .nothing x
+    unfolding rowStep
+    row-end h = row-none w (nodeShape s l) s from n x h
+
+    pub row-first : 0 < n → (i : ℕ) → i ≡ u16At s from → rowStep w s l from n x ≡ w .then (nodeStep w s l i) (rowStep w s l (from + 2) (n - 1)) x
+    unfolding rowStep nodeStep
+    row-first h i e = rw e (row-more w (nodeShape s l) s from n x h)
+
+  -- rounds: none, or one and the others
+  module _ (c : ℕ) (h : Bool) (from n : ℕ) (x : w .From) where
+    pub rounds-end : c ≤ 0 → roundsStep w s l c h from n x ≡ w .nothing x
+    unfolding roundsStep
+    rounds-end e = times-none w (under w h n (rowStep w s l from n)) c x e
+
+    pub rounds-first : 0 < c → roundsStep w s l c h from n x ≡ w .then (under w h n (rowStep w s l from n)) (roundsStep w s l (c - 1) h from n) x
+    unfolding roundsStep
+    rounds-first e = times-more w (under w h n (rowStep w s l from n)) c x e
+
+  module _ (ends : EndsBare w) where
+    -- one node, once
+    pub rounds-once : (from : ℕ) (x : w .From) → roundsStep w s l 1 false from 1 x ≡ nodeStep w s l (u16At s from) x
+    unfolding roundsStep under rowStep nodeStep
+    rounds-once from x = row-once w (nodeShape s l) s ends from x
+
+    -- what follows an item
+    pub along-followed : (way : Follow) (from n : ℕ) → isKnown way n ≡ true → (x : w .From)
+        → along w way (walks w (shapesAt (nodeShape s l) s from n)) x
+        ≡ roundsStep w s l (followed way from n .rounds) false (followed way from n .from) (followed way from n .width) x
+    unfolding roundsStep under rowStep along followed isKnown
+    along-followed (each c) from n k x = refl
+    along-followed (only v) from n k x = only-once w (nodeShape s l) s ends from n v (ltb-true v n k) x
 
 -- ---- a stretch that is one struct alone
 
@@ -59,16 +83,16 @@ pub fields-are : (l : Layout) (i a b : ℕ) (r : Node) → r .number ≡ 18 → 
 unfolding fieldsOf firstChild childCount kindOf kinds
 fields-are l i a b r e ea eb = rw (ea, eb, e)
 
-module _ (w : Walk) (then-nothing : (f : Step w) (x : w .From) → w .then f (w .nothing) x ≡ f x) where
-  one-node : (f : ℕ → Shape) (s : List ℕ) (from : ℕ) (x : w .From) → row w (shapesAt f s from 1) x ≡ walk w (f (u16At s from)) x
-  unfolding all walk shapesAt
-  one-node f s from x = then-nothing _ x
+module _ (w : Walk) (ends : EndsBare w) where
+  one-node : (s : List ℕ) (l : Layout) (from : ℕ) (x : w .From) → rowStep w s l from 1 x ≡ nodeStep w s l (u16At s from) x
+  unfolding rowStep nodeStep all walk shapesAt
+  one-node s l from x = ends _ x
 
   -- a struct is its fields under its entry
   struct-item : (k : Kind) → k ≡ struct → (m : ℕ) (fs : List (Step w)) (x : w .From)
       → w .item k m (λ a. along w (following k a) fs) x ≡ under w true m (all w fs) x
   unfolding under following along times
-  struct-item k e m fs x = rw e (ap (λ f. w .item struct m (λ a. f) x) (fun-ext (then-nothing (all w fs))))
+  struct-item k e m fs x = rw e (ap (λ f. w .item struct m (λ a. f) x) (fun-ext (ends (all w fs))))
 
 module _ {s : List ℕ} {l : Layout} {i from n : ℕ} {way : Way} (g : GoodTable s l) (h : i ≤ l .nodes) where
   pub flat-falls : Flat s l i from n way → Falls s (way .from) (way .width) i
@@ -79,39 +103,29 @@ module _ {s : List ℕ} {l : Layout} {i from n : ℕ} {way : Way} (g : GoodTable
       rw e (record { inside = f .inside; below = λ j b. let e = f .below j b in omega arith })
 
   -- a walk over the numbers is one over the way
-  pub flat-same : (w : Walk) → ((f : Step w) (x : w .From) → w .then f (w .nothing) x ≡ f x) → Flat s l i from n way → (x : w .From)
-      → row w (shapesAt (nodeShape s l) s from n) x ≡ under w (way .headed) (way .width) (row w (shapesAt (nodeShape s l) s (way .from) (way .width))) x
-  unfolding fieldsOf
-  flat-same w then-nothing (bare f e) x = unfold under in rw e
-  flat-same w then-nothing (alone {c} one is low k e) x =
-      rw (e, one)
-      (one-node w then-nothing (nodeShape s l) s from x
-      ∙ (rw (← is) (walk-node w (g .node-good c (omega arith)) x ∙ struct-item w then-nothing _ k _ _ x)))
+  module _ (w : Walk) (ends : EndsBare w) (flat : Flat s l i from n way) where
+    flat-at : (x : w .From) → rowStep w s l from n x ≡ under w (way .headed) (way .width) (rowStep w s l (way .from) (way .width)) x
+    flat-at x = go flat
+      where
+        go : Flat s l i from n way → rowStep w s l from n x ≡ under w (way .headed) (way .width) (rowStep w s l (way .from) (way .width)) x
+        go (bare f e) = unfold under in rw e
+        go (alone {c} one is low k e) =
+            rw (e, one)
+            (one-node w ends s l from x
+            ∙ (rw (← is) (unfold nodeStep rowStep fieldsOf in walk-node w (g .node-good c (omega arith)) x ∙ struct-item w ends _ k _ _ x)))
+
+    pub flat-row : rowStep w s l from n ≡ under w (way .headed) (way .width) (rowStep w s l (way .from) (way .width))
+    flat-row = fun-ext flat-at
+
+    -- so often
+    pub flat-rounds : (c : ℕ) → roundsStep w s l c false from n ≡ roundsStep w s l c (way .headed) (way .from) (way .width)
+    flat-rounds c = unfold roundsStep in ap (times w c) (unfold under in flat-row)
 
 -- ---- the root, whose number stands in the trailer
 
-abbrev Laid : Layout → Checked → Type 0
-Laid l (Good m) = l ≡ m
-Laid l (Bad e i) = Unit {0}
-
-from-laid : (s : List ℕ) (l : Layout) (i n : ℕ) → Laid l (checkFrom s l i n)
-unfolding checkFrom
-from-laid s l i zero = refl
-from-laid s l i (suc n) = of-given (Laid l) _ _ _ (λ _. from-laid s l (i + 1) n) (λ _. tt)
-
-check-laid : (s : List ℕ) → Laid (layoutAt s (length s - 10)) (check s)
-unfolding check checkAt
-check-laid s =
-    of-given (Laid (layoutAt s (length s - 10))) _ _ _
-    (λ _. of-given (Laid (layoutAt s (length s - 10))) _ _ _ (λ _. from-laid s (layoutAt s (length s - 10)) 0 _) (λ _. tt)) (λ _. tt)
-
 module _ (s : List ℕ) {l : Layout} (good : check s ≡ Good l) (at : ℕ) (place : at + 4 ≡ length s) where
   pub root-number : u16At s at ≡ l .root
-  unfolding layoutAt
-  root-number =
-      let laid : layoutAt s (length s - 10) ≡ l = rw good at (check-laid s) in
-      let here : at ≡ length s - 10 + 6 = omega (arith, good-table s l good .children-end) in
-      ap (u16At s) here ∙ ap (λ m. m .root) laid
+  root-number = let here : at ≡ length s - 4 = omega arith in rw here (good-table s l good .root-stands)
 
   pub root-falls : Falls s at 1 (l .nodes)
   root-falls =

@@ -12,9 +12,10 @@ use Rattle.wire.specs.declared.Checked.{Checked}
 use Rattle.wire.specs.declared.Checked.the-variants.{Good, Bad}
 use Rattle.wire.specs.Tests.{pick, both}
 use Rattle.wire.specs.Shape.{struct}
-use Rattle.wire.specs.Walk.{Follow, each, only, Walk, Step}
-use Rattle.wire.specs.Table.{u16At, Node, nodeAt, recordOf, below}
-use Rattle.laws.specs.Tables.{nodeKind, nodeFirst, nodeCount}
+use Rattle.wire.specs.Walk.{Follow, each, only, Walk, Step, times, walk}
+use Rattle.wire.specs.Table.{u16At, Node, nodeAt, recordOf, below, shapesAt}
+use Rattle.laws.specs.Steps.{row}
+use Rattle.laws.specs.Tables.{nodeKind, nodeFirst, nodeCount, nodeShape}
 use Rattle.table.specs.declared.Stretch.{Stretch}
 use Rattle.table.specs.declared.Way.{Way}
 
@@ -56,3 +57,21 @@ pub data Flat (s : List ℕ) (l : Layout) (i from n : ℕ) (way : Way) : Type 0 
 unfoldable pub under : (w : Walk) → Bool → ℕ → Step w → Step w
 under w true n f = w .item struct n (λ a. f)
 under w false n f = f
+
+-- ---- a walk over the nodes of a table
+
+-- one node
+unfoldable pub nodeStep : (w : Walk) → List ℕ → Layout → ℕ → Step w
+nodeStep w s l i = walk w (nodeShape s l i)
+
+-- the n nodes whose numbers stand from an offset on, one after the other
+unfoldable pub rowStep : (w : Walk) → List ℕ → Layout → (from n : ℕ) → Step w
+rowStep w s l from n = row w (shapesAt (nodeShape s l) s from n)
+
+-- such a row so many times over, as it stands or as that of a struct's n fields
+unfoldable pub roundsStep : (w : Walk) → List ℕ → Layout → (rounds : ℕ) (headed : Bool) (from n : ℕ) → Step w
+roundsStep w s l c h from n = times w c (under w h n (rowStep w s l from n))
+
+-- nothing behind a step is the step
+abbrev pub EndsBare : Walk → Type 0
+EndsBare w = (f : Step w) (x : w .From) → w .then f (w .nothing) x ≡ f x

@@ -11,6 +11,7 @@ ghost use Rattle.wire.specs.Tests.{pick, both};
 ghost use Rattle.wire.specs.Walk.{following, isKnown};
 ghost use Rattle.wire.specs.Table.{u16At, layoutAt, goodNumbers, goodTrailer, isKind, kindOf, recordOf, nodeAt, firstChild, childCount, goodKind, goodNode, checkFrom};
 ghost use Rattle.wire.specs.Table.{below as allBelow, check as checkOf};
+ghost use Rattle.laws.specs.KindRanges.{isInner};
 ghost use Rattle.laws.specs.Tables.{nodeFirst, nodeCount, GoodTable};
 ghost use Rattle.table.specs.Parts.{Inside, listed, badAt, followed, Falls, fieldsOf, Flat};
 
@@ -328,6 +329,16 @@ pub fn kind_at(table: &[u8], l: Layout, i: usize) -> u8
     table[at]
 }
 
+// Whether a kind, given by its number, has children.
+pub fn is_inner(number: u8) -> bool
+    ensures { λ r. ⌜ r ≡ isInner number ⌝ }
+{
+    match number {
+        15..=19 => true,
+        _ => false,
+    }
+}
+
 // Where the numbers of a node's children begin.
 pub fn first_child(table: &[u8], l: Layout, i: usize) -> usize
     requires { ⌜ GoodTable (now table) l ⌝ }
@@ -354,7 +365,7 @@ pub fn child_count(table: &[u8], l: Layout, i: usize) -> usize
 
 // Where the root's number stands, in the trailer.
 pub fn root_at(table: &[u8]) -> usize
-    requires { ⌜ 10 ≤ length (now table) ⌝ }
+    requires { ⌜ 4 ≤ length (now table) ⌝ }
     ensures { λ r. ⌜ r + 4 ≡ length (now (table .entry)) ⌝ }
 {
     table.len() - 4

@@ -6,7 +6,7 @@ use Rattle.wire.specs.Numbers.{most, last, low, varintF, varint}
 use Rattle.wire.specs.Text.{widthOf, lowOf, highOf, utf8F, utf8, leadPart, sixes, firstChar}
 use Rattle.wire.specs.Reading.{counted, charOf, readPlain}
 use Rattle.laws.proofs.Utf8.{char-text, first-char-of}
-use Rattle.utf8.specs.Laws.{CharIsText, FirstIsChar, Cases}
+use Rattle.utf8.specs.Laws.{CharIsText, FirstIsChar, CharCases}
 
 pub char-is-text : CharIsText
 char-is-text c e = let t = char-text c e in (t .valid, t .first-char)
@@ -14,6 +14,6 @@ char-is-text c e = let t = char-text c e in (t .valid, t .first-char)
 pub first-is-char : FirstIsChar
 first-is-char s h valid = let f = first-char-of s h valid in (f .is-char, f .front)
 
-pub cases : Cases
+pub char-cases : CharCases
 unfolding pick both most last low varintF varint widthOf lowOf highOf utf8F utf8 leadPart sixes firstChar counted charOf readPlain
-cases = (refl, refl, refl, refl, refl)
+char-cases = (refl, refl, refl, refl, refl)

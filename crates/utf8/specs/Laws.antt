@@ -21,8 +21,8 @@ FirstIsChar = (s : List ℕ) → 0 < length s → utf8 s ≡ true
     → (isChar (firstChar s) ≡ true) × (charBytes (firstChar s) ≡ take (length (charBytes (firstChar s))) s)
 
 -- document 01's cases 9 to 11, and what it warns of: four is tested before the end, and all the bytes are
-abbrev pub Cases : Type 0
-Cases =
+abbrev pub CharCases : Type 0
+CharCases =
     (readPlain char (0x02 ∷ 0x61 ∷ 0x62 ∷ []) ≡ Took 97 0 3)
     × (readPlain char (0x05 ∷ []) ≡ Refused BadChar)
     × (readPlain char (0x00 ∷ []) ≡ Refused BadChar)

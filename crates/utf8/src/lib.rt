@@ -315,14 +315,14 @@ fn char_of(part: &[u8], count: u64, used: usize) -> Item
     if part.len() < n {
         return Item::Refused { why: Refusal::End };
     }
-    let bytes = &part[..n];
-    let ok = is_text(bytes);
-    if !ok {
+    if n == 0 {
         return Item::Refused {
             why: Refusal::BadChar,
         };
     }
-    if n == 0 {
+    let bytes = &part[..n];
+    let ok = is_text(bytes);
+    if !ok {
         return Item::Refused {
             why: Refusal::BadChar,
         };
@@ -371,13 +371,13 @@ fn content_of(part: &[u8], count: u64, used: usize, text: bool) -> Item
         return Item::Refused { why: Refusal::End };
     }
     let n = count as usize;
+    let end = used + n;
     let ok = is_content(&part[..n], text);
     if !ok {
         return Item::Refused {
             why: Refusal::BadUtf8,
         };
     }
-    let end = used + n;
     Item::Took {
         first: used as u64,
         second: count,

@@ -13,7 +13,7 @@ use Rattle.wire.specs.declared.Item.the-variants.{Took, Refused}
 use Rattle.wire.specs.Numbers.{most, last, low, varintF, varint}
 use Rattle.laws.specs.Range.{span}
 use Rattle.laws.proofs.Varints.{varints, varint-small, varint-more, good, span-bits}
-use Rattle.varint.specs.Forms.{form, AnyLength, AreHigh, none, also, LastTooLarge, EndsInside, Cases}
+use Rattle.varint.specs.Forms.{form, AnyLength, AreHigh, none, also, LastTooLarge, EndsInside, VarintCases}
 
 -- ---- read
 
@@ -53,6 +53,6 @@ ends-inside w s hs l = rw (append-nil s) at (behind hs [] (most w) (most w - len
 
 -- ---- document 01's
 
-pub cases : Cases
+pub varint-cases : VarintCases
 unfolding varints varint most last
-cases = (refl, refl, refl, refl)
+varint-cases = (refl, refl, refl, refl)

@@ -4,10 +4,10 @@ use mathlib.Core.Path.{ap, _∙_}
 use mathlib.Core.List.{List}
 use Prim.Native.Nat.{ℕ}
 use Rattle.laws.proofs.Unique.{by-equation}
-use Rattle.varint.specs.Unique.{OneTake, OneAtWidth, OnePut, OneSize}
+use Rattle.varint.specs.Unique.{OneVarintTake, OneAtWidth, OnePut, OneSize}
 
-pub one-take : OneTake
-one-take k top s = by-equation _
+pub one-varint-take : OneVarintTake
+one-varint-take k top s = by-equation _
 
 pub one-at-width : OneAtWidth
 one-at-width w s = by-equation _

@@ -33,8 +33,8 @@ abbrev pub EndsInside : Type 0
 EndsInside = (w : Width) (s : List ℕ) → AreHigh s → length s < most w → varint w s ≡ Refused End
 
 -- document 01's cases 4 to 7
-abbrev pub Cases : Type 0
-Cases =
+abbrev pub VarintCases : Type 0
+VarintCases =
     (varint w16 (0xff ∷ 0xff ∷ 0x03 ∷ []) ≡ Took 65535 0 3)
     × (varint w16 (0x80 ∷ 0x80 ∷ 0x04 ∷ []) ≡ Refused BadVarint)
     × (varint w16 (0x80 ∷ 0x00 ∷ []) ≡ Took 0 0 2)

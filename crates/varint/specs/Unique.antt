@@ -11,8 +11,8 @@ use Rattle.laws.specs.Unique.{Unique}
 use Rattle.varint.specs.Takes.{takes}
 use Rattle.varint.specs.Put.{Put}
 
-abbrev pub OneTake : Type 0
-OneTake = (k top : ℕ) (s : List ℕ) → Unique (λ (r : Item). r ≡ takes k top s)
+abbrev pub OneVarintTake : Type 0
+OneVarintTake = (k top : ℕ) (s : List ℕ) → Unique (λ (r : Item). r ≡ takes k top s)
 
 abbrev pub OneAtWidth : Type 0
 OneAtWidth = (w : Width) (s : List ℕ) → Unique (λ (r : Item). r ≡ varint w s)

@@ -4,7 +4,7 @@ use wire::Refusal;
 ghost use mathlib.Core.Path.{_≡_};
 ghost use Prim.Native.Nat.{_+_};
 ghost use lib.ListN.{length, set};
-ghost use Rattle.wire.specs.Shape.{w16, w32, w64};
+ghost use Rattle.wire.specs.Shape.{w16, w32};
 ghost use Rattle.wire.specs.Numbers.{varint, shortest};
 ghost use Rattle.varint.specs.Takes.{limitOf, takes};
 ghost use Rattle.varint.specs.Put.{Put};
@@ -99,12 +99,6 @@ pub fn take_u32(part: &[u8]) -> Item
     ensures { λ r. ⌜ r ≡ varint w32 (now (part .entry)) ⌝ }
 {
     take(part, U32::MOST, U32::LAST)
-}
-
-pub fn take_u64(part: &[u8]) -> Item
-    ensures { λ r. ⌜ r ≡ varint w64 (now (part .entry)) ⌝ }
-{
-    take(part, U64::MOST, U64::LAST)
 }
 
 // Stores a byte at the n-th place behind `at`, if `out` has that place.

@@ -1,4 +1,6 @@
 -- What the public calls answer and leave in lent memory, and document 01's numbers.
+-- Letters: s bytes, p and q places, i the number of a node or an entry, n how many entries, a and b an entry's words, e an entry,
+-- k a kind's number, l a layout, x a spot, r a run, y yes or no.
 -- Assumes nothing.
 use mathlib.Core.Bool.{Bool, true, false}
 use mathlib.Core.List.{List, [], _∷_, _++_}
@@ -46,6 +48,16 @@ refusalNumber Room = 10
 refusalNumber Values = 11
 refusalNumber Full = 12
 
+-- which table is refused: 0 old, 1 new
+abbrev pub sideNumber : Side → ℕ
+sideNumber Old = 0
+sideNumber New = 1
+
+-- 1 for yes, 0 for no
+abbrev pub yesNumber : Bool → ℕ
+yesNumber true = 1
+yesNumber false = 0
+
 abbrev pub feedNumber : FeedAnswer → ℕ
 feedNumber Consumed = 20
 feedNumber OverFull = 21
@@ -59,30 +71,30 @@ pub record Numbered : Type 0 where
   pub place : ℕ
 
 unfoldable pub numbered : Refusal → ℕ → Numbered
-numbered e p = record { number = refusalNumber e; place = p }
+numbered why p = record { number = refusalNumber why; place = p }
 
 unfoldable pub done : ℕ → Numbered
 done p = record { number = 0; place = p }
 
 unfoldable pub checkSays : Checked → Numbered
 checkSays (Good l) = done 0
-checkSays (Bad e i) = numbered e i
+checkSays (Bad why i) = numbered why i
 
 unfoldable pub readSays : ReadAnswer → Numbered
 readSays (Read p n) = done p
-readSays (NotRead e p n) = numbered e p
+readSays (NotRead why p n) = numbered why p
 
 unfoldable pub writeSays : WriteAnswer → Numbered
 writeSays (Written p) = done p
-writeSays (NotWritten e p) = numbered e p
+writeSays (NotWritten why p) = numbered why p
 
 unfoldable pub takeSays : TakeAnswer → Numbered
 takeSays (Taken a b p) = done p
-takeSays (NotTaken e p) = numbered e p
+takeSays (NotTaken why p) = numbered why p
 
 unfoldable pub askSays : AskAnswer → Numbered
 askSays (Says y) = done 0
-askSays (NotAsked t e i) = numbered e i
+askSays (NotAsked side why i) = numbered why i
 
 -- ---- entries as words
 
@@ -100,7 +112,7 @@ words (e ∷ es) = wordsOf e ++ words es
 unfoldable pub entriesOf : List ℕ → List Entry
 entriesOf [] = []
 entriesOf (a ∷ []) = []
-entriesOf (a ∷ b ∷ s) = record { first = a; second = b; place = 0 } ∷ entriesOf s
+entriesOf (a ∷ b ∷ ws) = record { first = a; second = b; place = 0 } ∷ entriesOf ws
 
 -- a store's room in entries
 unfoldable pub roomOf : List ℕ → ℕ
@@ -115,7 +127,7 @@ storeWith es store = words es ++ drop (length (words es)) store
 -- what a table makes of a message, with room for so many entries
 unfoldable pub readBy : Checked → List ℕ → ℕ → List ℕ → Run
 readBy (Good l) table room message = fit room (read (shapeOf table l) (front message))
-readBy (Bad e i) table room message = record { made = []; ends = refused e i }
+readBy (Bad why i) table room message = record { made = []; ends = refused why i }
 
 unfoldable pub reads : List ℕ → List ℕ → List ℕ → Run
 reads table message store = readBy (check table) table (roomOf store) message
@@ -123,12 +135,20 @@ reads table message store = readBy (check table) table (roomOf store) message
 -- the answer of a run that made so many entries
 unfoldable pub readAnswer : Outcome → ℕ → ReadAnswer
 readAnswer (reached x) n = Read (x .place) n
-readAnswer (refused e p) n = NotRead e p n
+readAnswer (refused why p) n = NotRead why p n
+
+-- a whole run's
+abbrev pub runAnswer : Run → ReadAnswer
+runAnswer r = readAnswer (r .ends) (length (r .made))
+
+-- a reading that stores nothing, with room for so many entries
+unfoldable pub skims : List ℕ → List ℕ → (room : ℕ) → ReadAnswer
+skims table message room = runAnswer (readBy (check table) table room message)
 
 -- the unread bytes: none on a refusal, and none where the answer points beyond the message
 unfoldable pub restOf : List ℕ → ReadAnswer → List ℕ
 restOf message (Read p n) = drop p message
-restOf message (NotRead e p n) = []
+restOf message (NotRead why p n) = []
 
 -- ---- one item of a kind that is 0 to 13 or 20 to 31
 
@@ -136,8 +156,8 @@ unfoldable pub mayTake : ℕ → Bool
 mayTake k = pick (ltb k 14) true (both (leb 20 k) (isKind k))
 
 unfoldable pub taken : ℕ → Item → TakeAnswer
-taken p (Took a b n) = Taken a b (p + n)
-taken p (Refused e) = NotTaken e p
+taken p (Took a b used) = Taken a b (p + used)
+taken p (Refused why) = NotTaken why p
 
 unfoldable pub takes : ℕ → List ℕ → ℕ → TakeAnswer
 takes k message p =
@@ -148,7 +168,7 @@ takes k message p =
 -- the place of the record after that: behind the item, or as it was
 unfoldable pub placeAfter : ℕ → TakeAnswer → ℕ
 placeAfter p (Taken a b q) = q
-placeAfter p (NotTaken e q) = p
+placeAfter p (NotTaken why q) = p
 
 -- ---- writing
 
@@ -157,41 +177,41 @@ pub data Form : Type 0 where
   form : List ℕ → Form
   noForm : Refusal → ℕ → Form
 
--- entries that are left over do not fit, and neither do bytes beyond the output's length
+-- entries that are left over do not fit, and neither do bytes beyond the output's length, the limit
 unfoldable pub formOf : ℕ → List ℕ → (at : ℕ) → List Entry → Form
-formOf room s at [] = pick (leb (length s) room) (form s) (noForm Full 0)
-formOf room s at (e ∷ es) = noForm Values at
+formOf limit s at [] = pick (leb (length s) limit) (form s) (noForm Full 0)
+formOf limit s at (e ∷ es) = noForm Values at
 
 unfoldable pub formed : ℕ → Wrote → Form
-formed room (wrote s x) = formOf room s (x .at) (x .entries)
-formed room (misfit i) = noForm Values i
+formed limit (wrote s left) = formOf limit s (left .at) (left .entries)
+formed limit (misfit i) = noForm Values i
 
 unfoldable pub writeBy : Checked → List ℕ → List ℕ → List ℕ → ℕ → Form
-writeBy (Good l) table ws pool room =
+writeBy (Good l) table ws pool limit =
     given (eqb (length ws % wordsPer) 0)
-    (λ _. formed room (write (shapeOf table l) pool (record { at = 0; entries = entriesOf ws })))
+    (λ _. formed limit (write (shapeOf table l) pool (record { at = 0; entries = entriesOf ws })))
     (noForm Values (length ws / wordsPer))
-writeBy (Bad e i) table ws pool room = noForm e i
+writeBy (Bad why i) table ws pool limit = noForm why i
 
 unfoldable pub writes : List ℕ → List ℕ → List ℕ → ℕ → Form
-writes table ws pool room = writeBy (check table) table ws pool room
+writes table ws pool limit = writeBy (check table) table ws pool limit
 
 unfoldable pub writeAnswer : Form → WriteAnswer
 writeAnswer (form s) = Written (length s)
-writeAnswer (noForm e p) = NotWritten e p
+writeAnswer (noForm why p) = NotWritten why p
 
 -- only the bytes written change
 unfoldable pub outWith : Form → List ℕ → List ℕ
 outWith (form s) out = s ++ drop (length s) out
-outWith (noForm e p) out = out
+outWith (noForm why p) out = out
 
 -- ---- the append question
 
 -- yes or no of two good tables; the old table is refused before the new one
 unfoldable pub askBy : Checked → Checked → List ℕ → List ℕ → AskAnswer
-askBy (Good l) (Good m) old new = Says (appends (shapeOf old l) (shapeOf new m))
-askBy (Good l) (Bad e i) old new = NotAsked New e i
-askBy (Bad e i) c old new = NotAsked Old e i
+askBy (Good l) (Good l′) old new = Says (appends (shapeOf old l) (shapeOf new l′))
+askBy (Good l) (Bad why i) old new = NotAsked New why i
+askBy (Bad why i) checked old new = NotAsked Old why i
 
 unfoldable pub asks : List ℕ → List ℕ → AskAnswer
 asks old new = askBy (check old) (check new) old new

@@ -28,7 +28,7 @@ pub data Appends : Shape → Shape → Type 0 where
 
 unfoldable mutual
   pub matches : Shape → Shape → Bool
-  matches (node k ss) (node l ts) = both (sameKind k l) (firsts (isOpen k) ss ts)
+  matches (node k ss) (node k′ ts) = both (sameKind k k′) (firsts (isOpen k) ss ts)
 
   pub firsts : Bool → Shapes → Shapes → Bool
   firsts free none none = true
@@ -41,4 +41,4 @@ unfoldable pub isOpenRoot : Kind → Bool
 isOpenRoot k = pick (sameKind k struct) true (isOpen k)
 
 unfoldable pub appends : Shape → Shape → Bool
-appends (node k ss) (node l ts) = both (sameKind k l) (firsts (isOpenRoot k) ss ts)
+appends (node k ss) (node k′ ts) = both (sameKind k k′) (firsts (isOpenRoot k) ss ts)

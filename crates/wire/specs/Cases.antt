@@ -39,7 +39,7 @@ pub data Said : Type 0 where
   fed : (number : ℕ) (message rest array : List ℕ) (idx : ℕ) → Said
 
 unfoldable pub readSaid : Run → ReadAnswer → List ℕ → List ℕ → Said
-readSaid r a message store = read (readSays a .number) (readSays a .place) (length (r .made)) (storeWith (r .made) store) (restOf message a)
+readSaid r answered message store = read (readSays answered .number) (readSays answered .place) (length (r .made)) (storeWith (r .made) store) (restOf message answered)
 
 unfoldable pub readRun : Run → List ℕ → List ℕ → Said
 readRun r message store = readSaid r (readAnswer (r .ends) (length (r .made))) message store
@@ -47,21 +47,21 @@ readRun r message store = readSaid r (readAnswer (r .ends) (length (r .made))) m
 -- the answer, the entry's words, and the record's place behind it
 unfoldable pub tookSaid : ℕ → TakeAnswer → Said
 tookSaid p (Taken a b q) = took 0 q a b (placeAfter p (Taken a b q))
-tookSaid p (NotTaken e q) = took (refusalNumber e) q 0 0 (placeAfter p (NotTaken e q))
+tookSaid p (NotTaken why q) = took (refusalNumber why) q 0 0 (placeAfter p (NotTaken why q))
 
 unfoldable pub wroteForm : Form → List ℕ → Said
-wroteForm f out = wrote (writeSays (writeAnswer f) .number) (writeSays (writeAnswer f) .place) (outWith f out)
+wroteForm made out = wrote (writeSays (writeAnswer made) .number) (writeSays (writeAnswer made) .place) (outWith made out)
 
 unfoldable pub valuesBy : Checked → List ℕ → List ℕ → List ℕ → Said
 valuesBy (Good l) table ws pool = are (values (shapeOf table l) pool (entriesOf ws))
-valuesBy (Bad e i) table ws pool = badTable
+valuesBy (Bad why i) table ws pool = badTable
 
 unfoldable pub isYes : AskAnswer → Bool
 isYes (Says y) = y
-isYes (NotAsked t e i) = false
+isYes (NotAsked side why i) = false
 
 unfoldable pub fedSaid : Fed → Said
-fedSaid f = fed (feedNumber (f .answer)) (f .message) (f .rest) (f .array) (f .idx)
+fedSaid got = fed (feedNumber (got .answer)) (got .message) (got .rest) (got .array) (got .idx)
 
 unfoldable pub answer : Call → Said
 answer (reading table message store) = readRun (reads table message store) message store
@@ -76,7 +76,7 @@ pub record Case : Type 0 where
   pub said : Said
 
 unfoldable pub case : Call → Said → Case
-case c s = record { call = c; said = s }
+case call said = record { call = call; said = said }
 
 -- each call of a list answers what the list says
 abbrev pub Hold : List Case → Type 0

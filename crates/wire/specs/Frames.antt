@@ -14,15 +14,15 @@ use Rattle.wire.specs.Tests.{pick}
 
 -- how many zeros of the message stand behind a group of a code, where another group follows
 unfoldable pub gapAfter : ℕ → ℕ
-gapAfter c = 1
+gapAfter code = 1
 
--- k bytes are left of a group, and other groups may follow; `gap` zeros of the message stand in front of the next
+-- so many bytes are left of a group, and other groups may follow; `gap` zeros of the message stand in front of the next
 unfoldable pub groups : ℕ → ℕ → List ℕ → Option (List ℕ)
 groups gap zero [] = some []
-groups gap (suc k) [] = none
-groups gap k (zero ∷ s) = none
-groups gap zero (suc c ∷ s) = Option·map (λ (m : List ℕ). replicate gap 0 ++ m) (groups (gapAfter (suc c)) c s)
-groups gap (suc k) (suc b ∷ s) = Option·map (λ (m : List ℕ). suc b ∷ m) (groups gap k s)
+groups gap (suc left) [] = none
+groups gap left (zero ∷ s) = none
+groups gap zero (suc left ∷ s) = Option·map (λ (m : List ℕ). replicate gap 0 ++ m) (groups (gapAfter (suc left)) left s)
+groups gap (suc left) (suc b ∷ s) = Option·map (λ (m : List ℕ). suc b ∷ m) (groups gap left s)
 
 -- the message of a frame, which is given without its closing zero
 unfoldable pub decode : List ℕ → Option (List ℕ)

@@ -1,4 +1,5 @@
 -- Varints, zigzag and fixed-size integers: how a number stands in bytes, and how its word stands for it.
+-- Letters: s bytes, b a byte, x a number, a a word, z its zigzag, n how many bits, w a width, f a change of a word.
 -- Assumes nothing.
 use mathlib.Core.Bool.{Bool, true}
 use mathlib.Core.List.{List, [], _∷_, reverse}
@@ -26,15 +27,15 @@ last w64 = 1
 
 -- a byte whose high bit is set, in front of a varint: its low seven bits come lowest
 unfoldable pub low : ℕ → Item → Item
-low b (Took v w n) = Took (b % 128 + 128 * v) 0 (n + 1)
-low b (Refused e) = Refused e
+low b (Took a second used) = Took (b % 128 + 128 * a) 0 (used + 1)
+low b (Refused why) = Refused why
 
 -- a varint of at most so many bytes, of which the last allowed is at most `top`
 unfoldable pub varintF : ℕ → ℕ → List ℕ → Item
 varintF zero top s = Refused BadVarint
-varintF (suc k) top [] = Refused End
+varintF (suc count) top [] = Refused End
 varintF (suc zero) top (b ∷ s) = pick (leb b top) (Took b 0 1) (Refused BadVarint)
-varintF (suc (suc k)) top (b ∷ s) = pick (ltb b 128) (Took b 0 1) (low b (varintF (suc k) top s))
+varintF (suc (suc count)) top (b ∷ s) = pick (ltb b 128) (Took b 0 1) (low b (varintF (suc count) top s))
 
 unfoldable pub varint : Width → List ℕ → Item
 varint w s = varintF (most w) (last w) s
@@ -42,7 +43,7 @@ varint w s = varintF (most w) (last w) s
 -- the shortest varint, of at most so many bytes
 unfoldable pub shortestF : ℕ → ℕ → List ℕ
 shortestF zero x = []
-shortestF (suc k) x = pick (ltb x 128) (x ∷ []) ((x % 128 + 128) ∷ shortestF k (x / 128))
+shortestF (suc count) x = pick (ltb x 128) (x ∷ []) ((x % 128 + 128) ∷ shortestF count (x / 128))
 
 unfoldable pub shortest : ℕ → List ℕ
 shortest x = shortestF (most w64) x
@@ -83,8 +84,8 @@ unzigzagged signed z = unzigzag z
 unzigzagged unsigned z = z
 
 unfoldable pub onFirst : (ℕ → ℕ) → Item → Item
-onFirst f (Took a b n) = Took (f a) b n
-onFirst f (Refused e) = Refused e
+onFirst f (Took a second used) = Took (f a) second used
+onFirst f (Refused why) = Refused why
 
 -- ---- fixed-size numbers
 
@@ -94,12 +95,12 @@ little (b ∷ s) = b + 256 * little s
 
 unfoldable pub littleBytes : ℕ → ℕ → List ℕ
 littleBytes zero x = []
-littleBytes (suc n) x = x % 256 ∷ littleBytes n (x / 256)
+littleBytes (suc count) x = x % 256 ∷ littleBytes count (x / 256)
 
 unfoldable pub inOrder : Order → List ℕ → List ℕ
 inOrder le s = s
 inOrder be s = reverse s
 
--- n bytes, whose word is f of them
+-- so many bytes, and the word that is made of them
 unfoldable pub wordOf : ℕ → (List ℕ → ℕ) → List ℕ → Item
-wordOf n f s = pick (leb n (length s)) (Took (f (take n s)) 0 n) (Refused End)
+wordOf count made s = pick (leb count (length s)) (Took (made (take count s)) 0 count) (Refused End)

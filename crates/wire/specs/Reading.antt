@@ -1,4 +1,6 @@
 -- Reading a message of a shape: the entries that are made, and where it ends or why it is refused.
+-- Letters: s bytes, p a place, k a kind and n how many children it has, a and b an entry's words, e an entry,
+-- x a spot, r a run, f and g steps from a spot to a run, h a head, t a shape.
 -- Assumes nothing.
 use mathlib.Core.Bool.{Bool, true, false}
 use mathlib.Core.List.{List, [], _∷_, _++_}
@@ -20,52 +22,52 @@ use Rattle.wire.specs.Text.{utf8, firstChar}
 
 -- one byte that is 0 or 1
 unfoldable pub flag : Refusal → List ℕ → Item
-flag e [] = Refused End
-flag e (b ∷ s) = pick (leb b 1) (Took b 0 1) (Refused e)
+flag why [] = Refused End
+flag why (byte ∷ s) = pick (leb byte 1) (Took byte 0 1) (Refused why)
 
--- a count, which took n bytes, and what stands behind it
+-- a count, the bytes that it used, and what stands behind it
 unfoldable pub counted : Item → (ℕ → ℕ → Item) → Item
-counted (Took c b n) f = f c n
-counted (Refused e) f = Refused e
+counted (Took count b used) behind = behind count used
+counted (Refused why) behind = Refused why
 
--- c bytes behind a count that took n: at most four, then there, then UTF-8 with a char
+-- so many bytes behind their count, which used some: at most four, then there, then UTF-8 with a char
 unfoldable pub charOf : ℕ → ℕ → List ℕ → Item
-charOf c n s =
-    pick (ltb 4 c) (Refused BadChar)
-    (pick (ltb (length s) c) (Refused End)
-    (pick (both (ltb 0 c) (utf8 (take c s))) (Took (firstChar (take c s)) 0 (n + c)) (Refused BadChar)))
+charOf count used s =
+    pick (ltb 4 count) (Refused BadChar)
+    (pick (ltb (length s) count) (Refused End)
+    (pick (both (ltb 0 count) (utf8 (take count s))) (Took (firstChar (take count s)) 0 (used + count)) (Refused BadChar)))
 
 unfoldable pub isContent : Content → List ℕ → Bool
 isContent text s = utf8 s
 isContent raw s = true
 
--- c bytes behind a count that took n and stands at the place p
+-- so many bytes behind their count, which used some and stands at the place p
 unfoldable pub contentOf : Content → ℕ → ℕ → ℕ → List ℕ → Item
-contentOf k p c n s =
-    pick (ltb (length s) c) (Refused End) (pick (isContent k (take c s)) (Took (p + n) c (n + c)) (Refused BadUtf8))
+contentOf content p count used s =
+    pick (ltb (length s) count) (Refused End) (pick (isContent content (take count s)) (Took (p + used) count (used + count)) (Refused BadUtf8))
 
 unfoldable pub readPlain : Plain → List ℕ → Item
 readPlain bool s = flag BadBool s
-readPlain i8 s = wordOf 1 (λ b. word signed 8 (little b)) s
+readPlain i8 s = wordOf 1 (λ own. word signed 8 (little own)) s
 readPlain u8 s = wordOf 1 little s
 readPlain f32 s = wordOf 4 little s
 readPlain f64 s = wordOf 8 little s
-readPlain char s = counted (varint w64 s) (λ c n. charOf c n (drop n s))
+readPlain char s = counted (varint w64 s) (λ count used. charOf count used (drop used s))
 readPlain unit s = Took 0 0 0
-readPlain (int g w) s = onFirst (unzigzagged g) (varint w s)
-readPlain (fixed o g w) s = wordOf (size w) (λ b. word g (bits w) (little (inOrder o b))) s
+readPlain (int sign width) s = onFirst (unzigzagged sign) (varint width s)
+readPlain (fixed order sign width) s = wordOf (size width) (λ own. word sign (bits width) (little (inOrder order own))) s
 
 unfoldable pub known : ℕ → Item → Item
-known n (Took v b u) = pick (ltb v n) (Took v b u) (Refused Variant)
-known n (Refused e) = Refused e
+known n (Took a b used) = pick (ltb a n) (Took a b used) (Refused Variant)
+known n (Refused why) = Refused why
 
 -- the own bytes of an item of a kind with n children, which stands at the place p, where the bytes s are
 abbrev pub Head : Type 0
 Head = Kind → (n p : ℕ) → List ℕ → Item
 
 unfoldable pub head : Head
-head (plain l) n p s = readPlain l s
-head (pooled k) n p s = counted (varint w64 s) (λ c u. contentOf k p c u (drop u s))
+head (plain leaf) n p s = readPlain leaf s
+head (pooled content) n p s = counted (varint w64 s) (λ count used. contentOf content p count used (drop used s))
 head option n p s = flag BadOption s
 head sequence n p s = varint w64 s
 head map n p s = varint w64 s
@@ -103,18 +105,18 @@ readNothing x = record { made = []; ends = reached x }
 -- a refusal is handed up unchanged
 unfoldable pub readOn : List Entry → Outcome → (Spot → Run) → Run
 readOn es (reached x) g = runAfter es (g x)
-readOn es (refused e p) g = record { made = es; ends = refused e p }
+readOn es (refused why p) g = record { made = es; ends = refused why p }
 
 unfoldable pub readThen : (Spot → Run) → (Spot → Run) → Spot → Run
 readThen f g x = readOn (f x .made) (f x .ends) g
 
 unfoldable pub past : ℕ → Spot → Spot
-past n x = record { bytes = drop n (x .bytes); place = x .place + n }
+past used x = record { bytes = drop used (x .bytes); place = x .place + used }
 
 -- an item's entry, and then its children
 unfoldable pub enter : Item → (ℕ → Spot → Run) → Spot → Run
-enter (Refused e) next x = record { made = []; ends = refused e (x .place) }
-enter (Took a b n) next x = runAfter (record { first = a; second = b; place = x .place } ∷ []) (next a (past n x))
+enter (Refused why) next x = record { made = []; ends = refused why (x .place) }
+enter (Took a b used) next x = runAfter (record { first = a; second = b; place = x .place } ∷ []) (next a (past used x))
 
 unfoldable pub readItem : Head → Kind → ℕ → (ℕ → Spot → Run) → Spot → Run
 readItem h k n next x = enter (h k n (x .place) (x .bytes)) next x
@@ -131,8 +133,8 @@ read t x = walk (reading head) t x
 -- room for so many entries: each item, one that is refused too, wants room before its bytes are looked at
 unfoldable pub within : ℕ → List Entry → Outcome → Run
 within room [] (reached x) = record { made = []; ends = reached x }
-within zero [] (refused e p) = record { made = []; ends = refused Room p }
-within (suc room) [] (refused e p) = record { made = []; ends = refused e p }
+within zero [] (refused why p) = record { made = []; ends = refused Room p }
+within (suc room) [] (refused why p) = record { made = []; ends = refused why p }
 within zero (e ∷ es) end = record { made = []; ends = refused Room (e .place) }
 within (suc room) (e ∷ es) end = runAfter (e ∷ []) (within room es end)
 

@@ -1,7 +1,7 @@
 -- What a table describes: a tree of kinds.
 -- Assumes nothing.
 use mathlib.Core.Bool.{Bool}
-use Prim.Native.Nat.{ℕ, _+_}
+use Prim.Native.Nat.{ℕ, suc, max, _+_}
 use Rattle.wire.specs.Tests.{decided}
 
 -- the widths of integers, in bits and in bytes
@@ -47,7 +47,7 @@ pub data Kind : Type 0 where
   deriving Discrete as Kind-discrete
 
 unfoldable pub sameKind : Kind → Kind → Bool
-sameKind k l = decided (Kind-discrete (Plain-discrete Sign-discrete Width-discrete Order-discrete) Content-discrete k l)
+sameKind k k′ = decided (Kind-discrete (Plain-discrete Sign-discrete Width-discrete Order-discrete) Content-discrete k k′)
 
 -- a node: its kind and its children, in the table's order
 mutual
@@ -61,3 +61,12 @@ mutual
 unfoldable pub count : Shapes → ℕ
 count none = 0
 count (more t ts) = count ts + 1
+
+-- how long a shape's longest chain of children is, a leaf counting 1, and the longest of several shapes'
+unfoldable mutual
+  pub depth : Shape → ℕ
+  depth (node k ts) = suc (deepest ts)
+
+  pub deepest : Shapes → ℕ
+  deepest none = 0
+  deepest (more t ts) = max (depth t) (deepest ts)

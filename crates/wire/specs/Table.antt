@@ -1,4 +1,6 @@
 -- The schema table: a file read from its end, and the shape that it describes.
+-- Letters: s the file's bytes, l its layout, i a node's number, r its record with a and b, k its kind, f the shape of each node;
+-- c, d and n are the trailer's C, D and node count.
 -- Assumes nothing.
 use mathlib.Core.Bool.{Bool, true, false}
 use mathlib.Core.List.{List, [], _∷_}
@@ -13,7 +15,7 @@ use Rattle.wire.specs.Tests.{pick, given, both}
 use Rattle.wire.specs.Shape.{w16, w32, w64, le, be, signed, unsigned, bool, i8, u8, f32, f64, char, unit, int, fixed, text, raw, Kind, plain, pooled, option, sequence, map, struct, enum, Shape, node, Shapes, none, more}
 
 unfoldable pub u16At : List ℕ → ℕ → ℕ
-u16At s i = getD s i 0 + 256 * getD s (i + 1) 0
+u16At s at = getD s at 0 + 256 * getD s (at + 1) 0
 
 -- ---- the trailer: C, D, the node count n, the root and the mark, from `end` on
 
@@ -49,10 +51,10 @@ kinds =
     ∷ plain (fixed be unsigned w16) ∷ plain (fixed be unsigned w32) ∷ plain (fixed be unsigned w64) ∷ []
 
 unfoldable pub isKind : ℕ → Bool
-isKind k = ltb k (length kinds)
+isKind number = ltb number (length kinds)
 
 unfoldable pub kindOf : ℕ → Kind
-kindOf k = getD kinds k (plain unit)
+kindOf number = getD kinds number (plain unit)
 
 -- a node's record: its kind's number, the zero byte, a and b
 pub record Node : Type 0 where
@@ -70,8 +72,8 @@ recordOf l i = l .records + 6 * i
 
 -- its children's numbers: so many u16 that stand one after the other, in its own record or in the child list
 unfoldable pub firstChild : Layout → ℕ → Kind → ℕ → ℕ
-firstChild l i (plain x) a = recordOf l i + 2
-firstChild l i (pooled x) a = recordOf l i + 2
+firstChild l i (plain _) a = recordOf l i + 2
+firstChild l i (pooled _) a = recordOf l i + 2
 firstChild l i option a = recordOf l i + 2
 firstChild l i sequence a = recordOf l i + 2
 firstChild l i map a = recordOf l i + 2
@@ -79,23 +81,23 @@ firstChild l i struct a = l .children + 2 * a
 firstChild l i enum a = l .children + 2 * a
 
 unfoldable pub childCount : Kind → ℕ → ℕ
-childCount (plain x) b = 0
-childCount (pooled x) b = 0
+childCount (plain _) b = 0
+childCount (pooled _) b = 0
 childCount option b = 1
 childCount sequence b = 1
 childCount map b = 2
 childCount struct b = b
 childCount enum b = b
 
--- each of the n numbers from an offset on is below i
+-- each of the numbers from an offset on, of which so many are left, is below i
 unfoldable pub below : List ℕ → ℕ → ℕ → ℕ → Bool
 below s i from zero = true
-below s i from (suc n) = both (ltb (u16At s from) i) (below s i (from + 2) n)
+below s i from (suc left) = both (ltb (u16At s from) i) (below s i (from + 2) left)
 
 -- what a record's a and b must be besides
 unfoldable pub goodPlaces : Layout → Kind → ℕ → ℕ → Bool
-goodPlaces l (plain x) a b = both (eqb a 0) (eqb b 0)
-goodPlaces l (pooled x) a b = both (eqb a 0) (eqb b 0)
+goodPlaces l (plain _) a b = both (eqb a 0) (eqb b 0)
+goodPlaces l (pooled _) a b = both (eqb a 0) (eqb b 0)
 goodPlaces l option a b = eqb b 0
 goodPlaces l sequence a b = eqb b 0
 goodPlaces l map a b = true
@@ -108,10 +110,10 @@ goodKind s l i k a b = given (goodPlaces l k a b) (λ _. below s i (firstChild l
 unfoldable pub goodNode : List ℕ → Layout → ℕ → Node → Bool
 goodNode s l i r = both (both (isKind (r .number)) (eqb (r .zeroed) 0)) (goodKind s l i (kindOf (r .number)) (r .a) (r .b))
 
--- the first of the n nodes from i on that is not good
+-- the first that is not good of the nodes from i on, of which so many are left
 unfoldable pub checkFrom : List ℕ → Layout → ℕ → ℕ → Checked
 checkFrom s l i zero = Good l
-checkFrom s l i (suc n) = given (goodNode s l i (nodeAt s (recordOf l i))) (λ _. checkFrom s l (i + 1) n) (Bad Record i)
+checkFrom s l i (suc left) = given (goodNode s l i (nodeAt s (recordOf l i))) (λ _. checkFrom s l (i + 1) left) (Bad Record i)
 
 unfoldable pub checkAt : List ℕ → ℕ → Checked
 checkAt s end = given (goodTrailer s end) (λ _. checkFrom s (layoutAt s end) 0 (layoutAt s end .nodes)) (Bad Trailer 0)
@@ -121,10 +123,10 @@ check s = given (leb 10 (length s)) (λ _. checkAt s (length s - 10)) (Bad Trail
 
 -- ---- the shape
 
--- the shapes that n numbers from an offset on name
+-- the shapes that the numbers from an offset on name, of which so many are left
 unfoldable pub shapesAt : (ℕ → Shape) → List ℕ → ℕ → ℕ → Shapes
 shapesAt f s from zero = none
-shapesAt f s from (suc n) = more (f (u16At s from)) (shapesAt f s (from + 2) n)
+shapesAt f s from (suc left) = more (f (u16At s from)) (shapesAt f s (from + 2) left)
 
 unfoldable pub shapeBy : (ℕ → Shape) → List ℕ → Layout → ℕ → Node → Shape
 shapeBy f s l i r =
@@ -133,7 +135,7 @@ shapeBy f s l i r =
 -- the shape of the node i, whose children are below it: any count above i will do
 unfoldable pub shapeF : ℕ → List ℕ → Layout → ℕ → Shape
 shapeF zero s l i = node (plain unit) none
-shapeF (suc f) s l i = shapeBy (λ c. shapeF f s l c) s l i (nodeAt s (recordOf l i))
+shapeF (suc bound) s l i = shapeBy (λ child. shapeF bound s l child) s l i (nodeAt s (recordOf l i))
 
 unfoldable pub shapeOf : List ℕ → Layout → Shape
 shapeOf s l = shapeF (l .nodes) s l (l .root)

@@ -35,9 +35,9 @@ pub data Told : Type 0 where
   short : (front : List Tag) → Told
 
 unfoldable pub toldAfter : List Tag → Told → Told
-toldAfter ts (kept front rest) = kept (ts ++ front) rest
-toldAfter ts (lacks front e rest) = lacks (ts ++ front) e rest
-toldAfter ts (short front) = short (ts ++ front)
+toldAfter tags (kept front rest) = kept (tags ++ front) rest
+toldAfter tags (lacks front e rest) = lacks (tags ++ front) e rest
+toldAfter tags (short front) = short (tags ++ front)
 
 unfoldable pub tellNothing : List Entry → Told
 tellNothing es = kept [] es
@@ -69,8 +69,8 @@ pub data Value : Type 0 where
   content : List ℕ → Value
 
 unfoldable pub isPooled : Kind → Bool
-isPooled (plain l) = false
-isPooled (pooled c) = true
+isPooled (plain _) = false
+isPooled (pooled _) = true
 isPooled option = false
 isPooled sequence = false
 isPooled map = false
@@ -78,8 +78,8 @@ isPooled struct = false
 isPooled enum = false
 
 unfoldable pub valueOf : List ℕ → Tag → Value
-valueOf pool t =
-    pick (isPooled (t .kind)) (content (part pool (t .entry .first) (t .entry .second))) (number (t .entry .first) (t .entry .second))
+valueOf pool tag =
+    pick (isPooled (tag .kind)) (content (part pool (tag .entry .first) (tag .entry .second))) (number (tag .entry .first) (tag .entry .second))
 
 -- the values of a whole list; or those in front of where it ends too early, goes on too long or has a variant that the shape lacks
 pub data Valued : Type 0 where

@@ -14,8 +14,8 @@ pub data Follow : Type 0 where
 
 -- which children follow an item
 unfoldable pub following : Kind → (first : ℕ) → Follow
-following (plain l) a = each 0
-following (pooled c) a = each 0
+following (plain _) a = each 0
+following (pooled _) a = each 0
 following option a = each a
 following sequence a = each a
 following map a = each a
@@ -24,8 +24,8 @@ following enum a = only a
 
 -- what follows is there, among n children
 unfoldable pub isKnown : Follow → ℕ → Bool
-isKnown (each c) n = true
-isKnown (only v) n = ltb v n
+isKnown (each rounds) n = true
+isKnown (only which) n = ltb which n
 
 -- a walk's steps go from where it stands to what it made of that; one step can follow another,
 -- and an item of a kind with so many children is given the step that its first word names
@@ -46,16 +46,16 @@ module _ (w : Walk) where
 
   unfoldable pub times : ℕ → Step w → Step w
   times zero f x = w .nothing x
-  times (suc c) f x = w .then f (λ y. times c f y) x
+  times (suc rounds) f x = w .then f (λ y. times rounds f y) x
 
   unfoldable pub nth : List (Step w) → ℕ → Step w
-  nth [] v x = w .nothing x
+  nth [] which x = w .nothing x
   nth (f ∷ fs) zero x = f x
-  nth (f ∷ fs) (suc v) x = nth fs v x
+  nth (f ∷ fs) (suc which) x = nth fs which x
 
   unfoldable pub along : Follow → List (Step w) → Step w
-  along (each c) fs x = times c (all fs) x
-  along (only v) fs x = nth fs v x
+  along (each rounds) fs x = times rounds (all fs) x
+  along (only which) fs x = nth fs which x
 
   unfoldable mutual
     pub walk : Shape → Step w

@@ -1,4 +1,6 @@
 -- Writing a value list of a shape: the bytes, or the first entry that no value could have there.
+-- Letters: s bytes, k a kind and n how many children it has, a and b an entry's words, e an entry and i its number,
+-- x what is left of a list, f and g steps from there, t a shape.
 -- Assumes nothing.
 use mathlib.Core.Bool.{Bool, true, false}
 use mathlib.Core.List.{List, [], _∷_, _++_}
@@ -37,13 +39,13 @@ plainBytes f32 a b = single (isWord unsigned 32 a) b (littleBytes 4 a)
 plainBytes f64 a b = single (isWord unsigned 64 a) b (littleBytes 8 a)
 plainBytes char a b = single (isChar a) b (withCount (charBytes a))
 plainBytes unit a b = single (eqb a 0) b []
-plainBytes (int g w) a b = single (isWord g (bits w) a) b (shortest (zigzagged g a))
-plainBytes (fixed o g w) a b = single (isWord g (bits w) a) b (inOrder o (littleBytes (size w) a))
+plainBytes (int sign width) a b = single (isWord sign (bits width) a) b (shortest (zigzagged sign a))
+plainBytes (fixed order sign width) a b = single (isWord sign (bits width) a) b (inOrder order (littleBytes (size width) a))
 
 -- the own bytes of an item with n children
 unfoldable pub headBytes : Kind → ℕ → List ℕ → ℕ → ℕ → Option (List ℕ)
-headBytes (plain l) n pool a b = plainBytes l a b
-headBytes (pooled k) n pool a b = when (both (leb (a + b) (length pool)) (isContent k (part pool a b))) (withCount (part pool a b))
+headBytes (plain leaf) n pool a b = plainBytes leaf a b
+headBytes (pooled content) n pool a b = when (both (leb (a + b) (length pool)) (isContent content (part pool a b))) (withCount (part pool a b))
 headBytes option n pool a b = single (leb a 1) b (a ∷ [])
 headBytes sequence n pool a b = single (isWord unsigned 64 a) b (shortest a)
 headBytes map n pool a b = single (isWord unsigned 64 a) b (shortest a)
@@ -63,7 +65,7 @@ pub data Wrote : Type 0 where
   misfit : ℕ → Wrote
 
 unfoldable pub wroteAfter : List ℕ → Wrote → Wrote
-wroteAfter s (wrote t x) = wrote (s ++ t) x
+wroteAfter s (wrote behind x) = wrote (s ++ behind) x
 wroteAfter s (misfit i) = misfit i
 
 unfoldable pub writeNothing : Left → Wrote

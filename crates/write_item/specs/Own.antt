@@ -4,14 +4,14 @@ use mathlib.Core.Path.{_≡_}
 use mathlib.Core.Bool.{Bool, true, false}
 use mathlib.Core.List.{List}
 use mathlib.Core.Option.{Option, some, none}
-use Prim.Native.Nat.{ℕ, _+_, _*_, _/_, _%_, _<_, _≤_}
-use lib.ListN.{length, getD}
+use Prim.Native.Nat.{ℕ, _%_, _<_, _≤_}
 use lib.Dec.{ltb, eqb}
 use Rattle.wire.specs.Tests.{pick}
 use Rattle.wire.specs.Shape.{Width, w16, w32, w64, Sign, signed, unsigned, Kind}
 use Rattle.wire.specs.Table.{kindOf}
 use Rattle.wire.specs.Writing.{headBytes}
-use Rattle.wire.specs.Answers.{wordsPer}
+use Rattle.wire.specs.Answers.{roomOf}
+use Rattle.entry.specs.Words.{firstAt, secondAt}
 use Rattle.output.specs.Bytes.{Puts}
 
 -- six integers in the order of their kinds
@@ -20,11 +20,6 @@ signAt k = pick (ltb k 3) signed unsigned
 
 unfoldable pub widthAt : ℕ → Width
 widthAt k = pick (eqb (k % 3) 0) w16 (pick (eqb (k % 3) 1) w32 w64)
-
--- the number of a kind without children
-pub record IsLeaf (k : ℕ) : Type 0 where
-  pub small : k < 32
-  pub outer : 15 ≤ k → k ≤ 19 → ⊥
 
 unfoldable pub isSome : Option (List ℕ) → Bool
 isSome (some s) = true
@@ -52,8 +47,8 @@ pub record Lets (judged : Bool) (k : Kind) (n a b : ℕ) (r : Bool) : Type 0 whe
 pub record Fitting (k : ℕ) (ws : List ℕ) (at room : ℕ) : Type 0 where
   pub low : k ≤ 8
   pub wide : 10 ≤ room
-  pub more : at < length ws / wordsPer
-  pub fits : (pool : List ℕ) → isSome (headBytes (kindOf k) 0 pool (getD ws (wordsPer * at) 0) (getD ws (wordsPer * at + 1) 0)) ≡ true
+  pub more : at < roomOf ws
+  pub fits : (pool : List ℕ) → isSome (headBytes (kindOf k) 0 pool (firstAt ws at) (secondAt ws at)) ≡ true
 
 pub record Ready (k : ℕ) (ws : List ℕ) (at room : ℕ) (r : Bool) : Type 0 where
   pub is : r ≡ true → Fitting k ws at room

@@ -13,11 +13,12 @@ ghost use Rattle.wire.specs.Values.{isPooled};
 ghost use Rattle.wire.specs.Values.{part as partOf};
 ghost use Rattle.wire.specs.Reading.{isContent};
 ghost use Rattle.wire.specs.Writing.{withCount, headBytes};
+ghost use Rattle.laws.specs.KindRanges.{IsInner, IsLeaf};
 ghost use Rattle.zigzag.specs.Widths.{widthOf};
 ghost use Rattle.fixint.specs.Sizes.{orderOf};
 ghost use Rattle.utf8.specs.Contents.{contentIf};
 ghost use Rattle.output.specs.Bytes.{Puts};
-ghost use Rattle.write_item.specs.Own.{signAt, widthAt, isSome, IsLeaf, Known, JudgesLeaf, Judges, Lets, Fits, Ready, Spells, SpellsEntry};
+ghost use Rattle.write_item.specs.Own.{signAt, widthAt, isSome, Known, JudgesLeaf, Judges, Lets, Fits, Ready, Spells, SpellsEntry};
 
 // ---- chars, texts and bytes
 
@@ -233,7 +234,7 @@ fn is_variant(width: usize, first: u64) -> bool
 
 // That of an item with so many children, whose second word is 0.
 fn fits_first(number: u8, width: usize, first: u64) -> bool
-    requires { ⌜ (15 ≤ number) × (number ≤ 19) ⌝ }
+    requires { ⌜ IsInner number ⌝ }
     ensures { λ r. ⌜ Judges (kindOf number) width first r ⌝ }
 {
     match number {
@@ -246,7 +247,7 @@ fn fits_first(number: u8, width: usize, first: u64) -> bool
 
 // That of an item with so many children. One that was judged is not judged again.
 pub fn fits_inner(number: u8, width: usize, first: u64, second: u64, judged: bool) -> bool
-    requires { ⌜ (15 ≤ number) × (number ≤ 19) ⌝ }
+    requires { ⌜ IsInner number ⌝ }
     ensures { λ r. ⌜ Lets judged (kindOf number) width first second r ⌝ }
 {
     if judged {
@@ -294,7 +295,7 @@ fn put_int(number: u8, first: u64, out: &mut [u8], used: usize) -> usize
 
 // That of an item with children.
 pub fn put_inner(number: u8, first: u64, out: &mut [u8], used: usize) -> usize
-    requires { ⌜ (15 ≤ number) × (number ≤ 19) ⌝ }
+    requires { ⌜ IsInner number ⌝ }
     ensures { λ r. ⌜ Spells (kindOf number) first used (now (out .entry)) r (now (out .exit)) ⌝ }
 {
     match number {
@@ -353,12 +354,11 @@ pub fn is_ready(number: u8, words: &[u64], at: usize, room: usize) -> bool
     if room < varint::U64::MOST {
         return false;
     }
-    if words.len() / 2 <= at {
+    if entry::room(words.len()) <= at {
         return false;
     }
-    let i = 2 * at;
-    let first = words[i];
-    let second = words[i + 1];
+    let first = entry::first(words, at);
+    let second = entry::second(words, at);
     if second == 0 {
         return fits_int(number, first);
     }

@@ -4,7 +4,7 @@ use mathlib.Core.Path.{_≡_, refl, sym, ap, _∙_}
 use mathlib.Core.Bool.{Bool, true, false}
 use mathlib.Core.List.{List}
 use mathlib.Core.Option.{Option, some, none}
-use Prim.Native.Nat.{ℕ, _+_, _*_, _/_, _^_, _<_, _≤_}
+use Prim.Native.Nat.{ℕ, _+_, _*_, _^_, _<_, _≤_}
 use native.Mathlib.Omega.{arith}
 use lib.ListN.{length}
 use borrow.Author.Tests.{ltb-true}
@@ -13,21 +13,23 @@ use Rattle.wire.specs.Shape.{Plain, Content, Kind, plain, pooled}
 use Rattle.wire.specs.Walk.{following, isKnown, times, along, walks, Step}
 use Rattle.wire.specs.Table.{kinds, isKind, kindOf, nodeAt, recordOf, childCount, shapesAt}
 use Rattle.wire.specs.Writing.{Left, Wrote, misfit, wroteAfter, headBytes, writeNothing, spell, writeEntry, writeItem, writing, write}
-use Rattle.wire.specs.Answers.{wordsPer}
+use Rattle.wire.specs.Answers.{roomOf}
+use Rattle.laws.specs.KindRanges.{IsLeaf}
 use Rattle.laws.specs.Tables.{nodeFirst, nodeCount, nodeShape, GoodTable}
-use Rattle.laws.proofs.Splits.{by-lt, by-test, not-both}
+use Rattle.laws.proofs.Splits.{by-test, not-both}
 use Rattle.laws.proofs.Heads.{written-known}
 use Rattle.laws.proofs.Children.{walk-node}
-use Rattle.laws.proofs.EachKind.{low-kinds, high-kinds}
+use Rattle.laws.proofs.EachKind.{outer-kinds}
 use Rattle.table.specs.declared.Stretch.{Stretch}
-use Rattle.table.specs.Parts.{followed, Falls, under}
+use Rattle.table.specs.Parts.{followed, Falls, nodeStep}
 use Rattle.table.proofs.Stretches.{falls-followed, node-falls, along-followed}
 use Rattle.output.specs.Bytes.{Puts}
-use Rattle.write_item.specs.Own.{isSome, IsLeaf, Known, Lets, Fits, SpellsEntry}
+use Rattle.write_item.specs.Own.{isSome, Known, Lets, Fits, SpellsEntry}
 use Rattle.write_list.specs.declared.Entered.{Entered}
 use Rattle.write_list.specs.declared.Entered.the-variants.{On, Misfit}
-use Rattle.write_list.specs.Steps.{entries, writeLeaf, writeNode, writeRow, writeRounds, Sure, Going, Goes, Enters}
-use Rattle.write_list.proofs.Entries.{entryAt, entries-none, entries-more}
+use Rattle.write_list.specs.Steps.{entries, writeLeaf, Sure, Going, Goes, Enters}
+use Rattle.entry.specs.Words.{firstAt, secondAt}
+use Rattle.write_list.proofs.Entries.{entries-none, entries-more}
 use Rattle.write_list.proofs.Going.{then-nothing}
 
 -- ---- an entry
@@ -37,12 +39,12 @@ pub record Starts (w : Wrote) (o : Option (List ℕ)) (rest : Wrote) (e : ℕ) :
   pub lacks : o ≡ none → w ≡ misfit e
   pub has : (bs : List ℕ) → o ≡ some bs → w ≡ wroteAfter bs rest
 
-pub item-starts : (k : Kind) (n : ℕ) (pool : List ℕ) (next : ℕ → Left → Wrote) (ws : List ℕ) (e : ℕ) → e < length ws / wordsPer
-    → Starts (writeItem pool k n next (entries ws e)) (headBytes k n pool (entryAt ws e .first) (entryAt ws e .second)) (next (entryAt ws e .first) (entries ws (e + 1))) e
+pub item-starts : (k : Kind) (n : ℕ) (pool : List ℕ) (next : ℕ → Left → Wrote) (ws : List ℕ) (e : ℕ) → e < roomOf ws
+    → {a b : ℕ} → a ≡ firstAt ws e → b ≡ secondAt ws e → Starts (writeItem pool k n next (entries ws e)) (headBytes k n pool a b) (next a (entries ws (e + 1))) e
 unfolding writeItem writeEntry spell entries
-item-starts k n pool next ws e more =
-    let spelt : writeItem pool k n next (entries ws e) ≡ spell (headBytes k n pool (entryAt ws e .first) (entryAt ws e .second)) (entryAt ws e .first) next e (entries ws (e + 1) .entries) =
-    ap (writeItem pool k n next) (entries-more ws e more) in
+item-starts k n pool next ws e more {a} {b} ea eb =
+    let spelt : writeItem pool k n next (entries ws e) ≡ spell (headBytes k n pool a b) a next e (entries ws (e + 1) .entries) =
+    ap (writeItem pool k n next) (entries-more ws e more) ∙ (rw (ea, eb)) in
     record { lacks = λ q. spelt ∙ (rw q); has = λ bs q. spelt ∙ (rw q) }
 
 record Has (o : Option (List ℕ)) : Type 0 where
@@ -74,10 +76,10 @@ module _ {w : Wrote} {o : Option (List ℕ)} {rest : Wrote} {e : ℕ} (h : Start
 
 -- ---- a leaf
 
-pub leaf-starts : (k : Kind) (pool ws : List ℕ) (e : ℕ) → e < length ws / wordsPer
-    → Starts (writeLeaf k pool (entries ws e)) (headBytes k 0 pool (entryAt ws e .first) (entryAt ws e .second)) (writeNothing (entries ws (e + 1))) e
+pub leaf-starts : (k : Kind) (pool ws : List ℕ) (e : ℕ) → e < roomOf ws → {a b : ℕ} → a ≡ firstAt ws e → b ≡ secondAt ws e
+    → Starts (writeLeaf k pool (entries ws e)) (headBytes k 0 pool a b) (writeNothing (entries ws (e + 1))) e
 unfolding writeLeaf
-leaf-starts k pool ws e more = item-starts k 0 pool _ ws e more
+leaf-starts k pool ws e more ea eb = item-starts k 0 pool _ ws e more ea eb
 
 -- nothing follows it
 abbrev Alone : (pool : List ℕ) → Kind → Type 0
@@ -92,15 +94,13 @@ unfolding childCount following along times writeLeaf
 pooled-alone pool c b fs x = refl
 
 leaf-alone : (pool : List ℕ) {k : ℕ} → IsLeaf k → Alone pool (kindOf k)
-leaf-alone pool {k} f =
-    by-lt k 15 (low-kinds (Alone pool) (plain-alone pool) (pooled-alone pool) k)
-    (λ h. by-lt k 20 (λ l. absurd (f .outer h (omega arith))) (λ l. high-kinds (Alone pool) (plain-alone pool) (pooled-alone pool) k (omega arith)))
+leaf-alone pool {k} f = outer-kinds (Alone pool) (plain-alone pool) (pooled-alone pool) k (f .outer)
 
 -- ---- an entry of the node i
 
 module _ {s : List ℕ} {l : Layout} {i : ℕ} (good : GoodTable s l) (below : i < l .nodes) (pool ws : List ℕ) (e : ℕ) where
-  pub node-end : length ws / wordsPer ≤ e → writeNode s l pool i (entries ws e) ≡ misfit e
-  unfolding writeNode write writeItem writeEntry
+  pub node-end : roomOf ws ≤ e → nodeStep (writing pool) s l i (entries ws e) ≡ misfit e
+  unfolding nodeStep write writeItem writeEntry
   node-end h = ap (write (nodeShape s l i) pool) (entries-none ws e h) ∙ walk-node (writing pool) (good .node-good i below) _
 
   -- its record has the kind's number k
@@ -109,31 +109,31 @@ module _ {s : List ℕ} {l : Layout} {i : ℕ} (good : GoodTable s l) (below : i
     unfolding isKind kinds
     node-number = rw ek (ltb-true _ 32 (good .node-good i below .is-kind))
 
-    pub node-leaf : IsLeaf k → writeNode s l pool i (entries ws e) ≡ writeLeaf (kindOf k) pool (entries ws e)
-    unfolding writeNode write
+    pub node-leaf : IsLeaf k → nodeStep (writing pool) s l i (entries ws e) ≡ writeLeaf (kindOf k) pool (entries ws e)
+    unfolding nodeStep write
     node-leaf f = walk-node (writing pool) (good .node-good i below) (entries ws e) ∙ (rw (← ek) (leaf-alone pool f _ _ (entries ws e)))
 
-    -- and n children
-    module _ {n : ℕ} (en : n ≡ nodeCount (nodeAt s (recordOf l i))) (more : e < length ws / wordsPer) where
-      pub node-starts : Starts (writeNode s l pool i (entries ws e)) (headBytes (kindOf k) n pool (entryAt ws e .first) (entryAt ws e .second))
-          (along (writing pool) (following (kindOf k) (entryAt ws e .first)) (walks (writing pool) (shapesAt (nodeShape s l) s (nodeFirst l i (nodeAt s (recordOf l i))) n)) (entries ws (e + 1)))
+    -- and n children, and the entry has the words a and b
+    module _ {n : ℕ} (en : n ≡ nodeCount (nodeAt s (recordOf l i))) (more : e < roomOf ws) {a b : ℕ} (ea : a ≡ firstAt ws e) (eb : b ≡ secondAt ws e) where
+      pub node-starts : Starts (nodeStep (writing pool) s l i (entries ws e)) (headBytes (kindOf k) n pool a b)
+          (along (writing pool) (following (kindOf k) a) (walks (writing pool) (shapesAt (nodeShape s l) s (nodeFirst l i (nodeAt s (recordOf l i))) n)) (entries ws (e + 1)))
           e
-      unfolding writeNode write
-      node-starts = rw (walk-node (writing pool) (good .node-good i below) (entries ws e), ek, en) (item-starts _ _ pool _ ws e more)
+      unfolding nodeStep write
+      node-starts = rw (walk-node (writing pool) (good .node-good i below) (entries ws e), ek, en) (item-starts _ _ pool _ ws e more ea eb)
 
       -- as the code asks it, which passes over what was judged
-      module _ {judged r : Bool} (sure : Sure judged (writeNode s l pool i (entries ws e))) (lets : Lets judged (kindOf k) n (entryAt ws e .first) (entryAt ws e .second) r) where
-        asked : r ≡ isSome (headBytes (kindOf k) n pool (entryAt ws e .first) (entryAt ws e .second))
+      module _ {judged r : Bool} (sure : Sure judged (nodeStep (writing pool) s l i (entries ws e))) (lets : Lets judged (kindOf k) n a b r) where
+        asked : r ≡ isSome (headBytes (kindOf k) n pool a b)
         asked = lets .at pool (start-known node-starts sure)
 
-        pub node-has : r ≡ true → isSome (headBytes (kindOf k) n pool (entryAt ws e .first) (entryAt ws e .second)) ≡ true
+        pub node-has : r ≡ true → isSome (headBytes (kindOf k) n pool a b) ≡ true
         node-has h = sym asked ∙ h
 
-        pub node-lacks : r ≡ false → writeNode s l pool i (entries ws e) ≡ misfit e
+        pub node-lacks : r ≡ false → nodeStep (writing pool) s l i (entries ws e) ≡ misfit e
         node-lacks h = start-lacks node-starts (sym asked ∙ h)
 
-      module _ (yes : isSome (headBytes (kindOf k) n pool (entryAt ws e .first) (entryAt ws e .second)) ≡ true) where
-        pub node-follows : isKnown (following (kindOf k) (entryAt ws e .first)) n ≡ true
+      module _ (yes : isSome (headBytes (kindOf k) n pool a b) ≡ true) where
+        pub node-follows : isKnown (following (kindOf k) a) n ≡ true
         node-follows = written-known (kindOf k) n pool _ _ (has _ yes .is)
 
         -- the numbers of its children stand from an offset on
@@ -144,16 +144,15 @@ module _ {s : List ℕ} {l : Layout} {i : ℕ} (good : GoodTable s l) (below : i
           pub node-inside : length s < 2 ^ 63 → from + 2 * n < 2 ^ 64
           node-inside h = omega (arith, falls .inside)
 
-          pub node-goes : {u m : ℕ} {before out : List ℕ} {to : Stretch} → SpellsEntry (kindOf k) pool (entryAt ws e .first) (entryAt ws e .second) u before m out
-              → to ≡ followed (following (kindOf k) (entryAt ws e .first)) from n → Goes (writeNode s l pool i (entries ws e)) s l pool i ws e u before to m out
-          unfolding writeRounds under writeRow
+          pub node-goes : {u m : ℕ} {before out : List ℕ} {to : Stretch} → SpellsEntry (kindOf k) pool a b u before m out
+              → to ≡ followed (following (kindOf k) a) from n → Goes (nodeStep (writing pool) s l i (entries ws e)) s l pool i ws e u before to m out
           node-goes puts goes =
               rw goes
               (record {
                 more = more;
-                falls = falls-followed falls (following (kindOf k) (entryAt ws e .first)) node-follows;
+                falls = falls-followed falls (following (kindOf k) a) node-follows;
                 going =
-                    rw (← (along-followed (writing pool) then-nothing (nodeShape s l) s (following (kindOf k) (entryAt ws e .first)) from n node-follows (entries ws (e + 1))), ef)
+                    rw (← (along-followed (writing pool) s l then-nothing (following (kindOf k) a) from n node-follows (entries ws (e + 1))), ef)
                     (start-going node-starts yes (λ bs q. puts .puts n q));
               })
 

@@ -1,20 +1,17 @@
--- Writing as the code goes through it: nodes whose numbers stand one after the other in the table, gone through so often.
+-- Writing as the code goes through it: what a pass has put, and what is left.
 -- Assumes nothing.
 use mathlib.Core.Path.{_≡_}
 use mathlib.Core.Bool.{Bool, true, false}
 use mathlib.Core.List.{List, []}
-use Prim.Native.Nat.{ℕ, _+_, _*_, _/_, _<_}
-use lib.ListN.{length, drop}
+use Prim.Native.Nat.{ℕ, _+_, _*_, _<_}
+use lib.ListN.{drop}
 use Rattle.wire.specs.declared.Layout.{Layout}
-use Rattle.wire.specs.Shape.{Kind, struct}
-use Rattle.wire.specs.Walk.{times}
-use Rattle.wire.specs.Table.{shapesAt, shapeOf}
+use Rattle.wire.specs.Shape.{Kind}
+use Rattle.wire.specs.Table.{shapeOf}
 use Rattle.wire.specs.Writing.{Left, Wrote, wrote, misfit, wroteAfter, writeNothing, writeItem, writing, write}
-use Rattle.wire.specs.Answers.{wordsPer, entriesOf}
-use Rattle.laws.specs.Steps.{row}
-use Rattle.laws.specs.Tables.{nodeShape}
+use Rattle.wire.specs.Answers.{wordsPer, entriesOf, roomOf}
 use Rattle.table.specs.declared.Stretch.{Stretch}
-use Rattle.table.specs.Parts.{Falls, under}
+use Rattle.table.specs.Parts.{Falls, under, rowStep, roundsStep}
 use Rattle.output.specs.Bytes.{Puts}
 use Rattle.write_list.specs.declared.Put.{Put}
 use Rattle.write_list.specs.declared.Put.the-variants.{Done, Misfit}
@@ -28,23 +25,9 @@ use Rattle.write_list.specs.declared.Begun.the-variants as begun
 unfoldable pub entries : List ℕ → ℕ → Left
 entries ws i = record { at = i; entries = entriesOf (drop (wordsPer * i) ws) }
 
--- a leaf, one node, and nodes one after the other
+-- a leaf, which nothing follows
 unfoldable pub writeLeaf : Kind → (pool : List ℕ) → Left → Wrote
 writeLeaf k pool = writeItem pool k 0 (λ a. writeNothing)
-
-unfoldable pub writeNode : List ℕ → Layout → (pool : List ℕ) → ℕ → Left → Wrote
-writeNode s l pool i = write (nodeShape s l i) pool
-
-unfoldable pub writeRow : List ℕ → Layout → (pool : List ℕ) → (from n : ℕ) → Left → Wrote
-writeRow s l pool from n = row (writing pool) (shapesAt (nodeShape s l) s from n)
-
--- a step as it stands, or as that of a struct's n fields
-abbrev pub headed : Bool → (pool : List ℕ) → (n : ℕ) → (Left → Wrote) → Left → Wrote
-headed h pool n f = under (writing pool) h n f
-
--- such a row so many times over
-unfoldable pub writeRounds : List ℕ → Layout → (pool : List ℕ) → (rounds : ℕ) (h : Bool) (from n : ℕ) → Left → Wrote
-writeRounds s l pool c h from n = times (writing pool) c (headed h pool n (writeRow s l pool from n))
 
 -- a list that was judged has no misfit
 pub record Sure (judged : Bool) (w : Wrote) : Type 0 where
@@ -66,9 +49,9 @@ pub record Gives (w : Wrote) (ws : List ℕ) (u : ℕ) (before : List ℕ) (r : 
 
 -- The entry `at`, of the node i, was entered: its own bytes were put, the nodes that follow fall, and they are what is left.
 pub record Goes (w : Wrote) (s : List ℕ) (l : Layout) (pool : List ℕ) (i : ℕ) (ws : List ℕ) (at u : ℕ) (before : List ℕ) (to : Stretch) (n : ℕ) (out : List ℕ) : Type 0 where
-  pub more : at < length ws / wordsPer
+  pub more : at < roomOf ws
   pub falls : Falls s (to .from) (to .width) i
-  pub going : Going w (writeRounds s l pool (to .rounds) false (to .from) (to .width) (entries ws (at + 1))) u before n out
+  pub going : Going w (roundsStep (writing pool) s l (to .rounds) false (to .from) (to .width) (entries ws (at + 1))) u before n out
 
 abbrev pub EntersBy : Wrote → List ℕ → Layout → (pool : List ℕ) → (i : ℕ) → (ws : List ℕ) → (at u : ℕ) → (before : List ℕ) → Entered → List ℕ → Type 0
 EntersBy w s l pool i ws at u before (entered.On to n) out = Goes w s l pool i ws at u before to n out
@@ -79,8 +62,8 @@ pub record Enters (w : Wrote) (s : List ℕ) (l : Layout) (pool : List ℕ) (i :
 
 -- a round begins behind the entry that heads it, or that entry is a misfit
 abbrev pub BeginsBy : Bool → List ℕ → ℕ → Begun → (pool : List ℕ) → (n : ℕ) → (Left → Wrote) → Type 0
-BeginsBy h ws at (begun.At b) pool n f = headed h pool n f (entries ws at) ≡ f (entries ws b)
-BeginsBy h ws at begun.Misfit pool n f = headed h pool n f (entries ws at) ≡ misfit at
+BeginsBy h ws at (begun.At b) pool n f = under (writing pool) h n f (entries ws at) ≡ f (entries ws b)
+BeginsBy h ws at begun.Misfit pool n f = under (writing pool) h n f (entries ws at) ≡ misfit at
 
 pub record Begins (h : Bool) (ws : List ℕ) (at : ℕ) (r : Begun) : Type 0 where
   pub holds : (pool : List ℕ) (n : ℕ) (f : Left → Wrote) → BeginsBy h ws at r pool n f
@@ -88,7 +71,7 @@ pub record Begins (h : Bool) (ws : List ℕ) (at : ℕ) (r : Begun) : Type 0 whe
 -- with any pool, a row was put up to the numbers that are left, which fall
 pub record Leads (s : List ℕ) (l : Layout) (from n : ℕ) (ws : List ℕ) (at : ℕ) (before : List ℕ) (r : Ahead) (out : List ℕ) : Type 0 where
   pub falls : Falls s (r .child) (r .left) (l .nodes)
-  pub going : (pool : List ℕ) → Going (writeRow s l pool from n (entries ws at)) (writeRow s l pool (r .child) (r .left) (entries ws (r .at))) 0 before (r .used) out
+  pub going : (pool : List ℕ) → Going (rowStep (writing pool) s l from n (entries ws at)) (rowStep (writing pool) s l (r .child) (r .left) (entries ws (r .at))) 0 before (r .used) out
 
 -- where none are left, the whole list was put
 pub record Whole (s : List ℕ) (l : Layout) (ws before : List ℕ) (r : Ahead) (out : List ℕ) : Type 0 where

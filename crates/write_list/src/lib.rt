@@ -3,15 +3,16 @@ use table::Stretch;
 use wire::Layout;
 ghost use mathlib.Core.Path.{_≡_};
 ghost use Prim.Native.Nat.{_/_, _<_, _≤_};
-ghost use lib.ListN.{length};
 ghost use Rattle.wire.specs.declared.Checked.the-variants.{Good};
 ghost use Rattle.wire.specs.Table.{kindOf, nodeAt, recordOf, shapeOf};
 ghost use Rattle.wire.specs.Table.{check as checkOf};
+ghost use Rattle.wire.specs.Writing.{writing};
 ghost use Rattle.wire.specs.Writing.{write as writeShape};
+ghost use Rattle.wire.specs.Answers.{roomOf};
 ghost use Rattle.laws.specs.Tables.{GoodTable};
-ghost use Rattle.table.specs.Parts.{Falls};
-ghost use Rattle.write_item.specs.Own.{IsLeaf};
-ghost use Rattle.write_list.specs.Steps.{entries, writeLeaf, writeNode, writeRow, writeRounds, Sure, Gives, Enters, Begins, Leads, Whole};
+ghost use Rattle.laws.specs.KindRanges.{IsInner, IsLeaf};
+ghost use Rattle.table.specs.Parts.{Falls, nodeStep, rowStep, roundsStep};
+ghost use Rattle.write_list.specs.Steps.{entries, writeLeaf, Sure, Gives, Enters, Begins, Leads, Whole};
 
 // How far a list is written: the next entry and how many bytes there are now; or the entry that does not fit.
 pub enum Put {
@@ -53,13 +54,12 @@ fn leaf_item(
     judged: bool,
 ) -> Put
     requires { ⌜ IsLeaf number ⌝ }
-    requires { ⌜ at < length (now words) / 2 ⌝ }
+    requires { ⌜ at < roomOf (now words) ⌝ }
     requires { ⌜ Sure judged (writeLeaf (kindOf number) (now pool) (entries (now words) at)) ⌝ }
     ensures { λ r. ⌜ Gives (writeLeaf (kindOf number) (now (pool .entry)) (entries (now (words .entry)) at)) (now (words .entry)) used (now (out .entry)) r (now (out .exit)) ⌝ }
 {
-    let i = 2 * at;
-    let first = words[i];
-    let second = words[i + 1];
+    let first = entry::first(words, at);
+    let second = entry::second(words, at);
     let ok = write_item::fits_leaf(number, first, second, pool, judged);
     if ok {
         let more = write_item::put_leaf(number, first, second, pool, out, used);
@@ -88,14 +88,13 @@ fn enter(
     requires { ⌜ GoodTable (now table) l ⌝ }
     requires { ⌜ node < l .nodes ⌝ }
     requires { ⌜ number ≡ nodeAt (now table) (recordOf l node) .number ⌝ }
-    requires { ⌜ (15 ≤ number) × (number ≤ 19) ⌝ }
-    requires { ⌜ at < length (now words) / 2 ⌝ }
-    requires { ⌜ Sure judged (writeNode (now table) l (now pool) node (entries (now words) at)) ⌝ }
-    ensures { λ r. ⌜ Enters (writeNode (now (table .entry)) l (now (pool .entry)) node (entries (now (words .entry)) at)) (now (table .entry)) l (now (pool .entry)) node (now (words .entry)) at used (now (out .entry)) r (now (out .exit)) ⌝ }
+    requires { ⌜ IsInner number ⌝ }
+    requires { ⌜ at < roomOf (now words) ⌝ }
+    requires { ⌜ Sure judged (nodeStep (writing (now pool)) (now table) l node (entries (now words) at)) ⌝ }
+    ensures { λ r. ⌜ Enters (nodeStep (writing (now (pool .entry))) (now (table .entry)) l node (entries (now (words .entry)) at)) (now (table .entry)) l (now (pool .entry)) node (now (words .entry)) at used (now (out .entry)) r (now (out .exit)) ⌝ }
 {
-    let i = 2 * at;
-    let first = words[i];
-    let second = words[i + 1];
+    let first = entry::first(words, at);
+    let second = entry::second(words, at);
     let width = table::child_count(table, l, node);
     let ok = write_item::fits_inner(number, width, first, second, judged);
     if ok {
@@ -114,12 +113,11 @@ fn begin(headed: bool, words: &[u64], at: usize) -> Begun
     ensures { λ r. ⌜ Begins headed (now (words .entry)) at r ⌝ }
 {
     if headed {
-        if words.len() / 2 <= at {
+        if entry::room(words.len()) <= at {
             return Begun::Misfit;
         }
-        let i = 2 * at;
-        let first = words[i];
-        let second = words[i + 1];
+        let first = entry::first(words, at);
+        let second = entry::second(words, at);
         if first != 0 {
             return Begun::Misfit;
         }
@@ -147,31 +145,29 @@ fn put_item(
 ) -> Put
     requires { ⌜ GoodTable (now table) l ⌝ }
     requires { ⌜ node < l .nodes ⌝ }
-    requires { ⌜ Sure judged (writeNode (now table) l (now pool) node (entries (now words) at)) ⌝ }
-    ensures { λ r. ⌜ Gives (writeNode (now (table .entry)) l (now (pool .entry)) node (entries (now (words .entry)) at)) (now (words .entry)) used (now (out .entry)) r (now (out .exit)) ⌝ }
+    requires { ⌜ Sure judged (nodeStep (writing (now pool)) (now table) l node (entries (now words) at)) ⌝ }
+    ensures { λ r. ⌜ Gives (nodeStep (writing (now (pool .entry))) (now (table .entry)) l node (entries (now (words .entry)) at)) (now (words .entry)) used (now (out .entry)) r (now (out .exit)) ⌝ }
 {
-    if words.len() / 2 <= at {
+    if entry::room(words.len()) <= at {
         return Put::Misfit { at };
     }
     let number = table::kind_at(table, l, node);
-    match number {
-        15..=19 => {
-            let got = inner_item(table, l, node, number, words, at, pool, out, used, judged);
-            // Made anew, so that a leaf's answer does not go through memory with this one.
-            let Put::Done {
-                at: next,
-                used: more,
-            } = got
-            else {
-                return got;
-            };
-            Put::Done {
-                at: next,
-                used: more,
-            }
-        }
-        _ => leaf_item(number, words, at, pool, out, used, judged),
+    if table::is_inner(number) {
+        let got = inner_item(table, l, node, number, words, at, pool, out, used, judged);
+        // Made anew, so that a leaf's answer does not go through memory with this one.
+        let Put::Done {
+            at: next,
+            used: more,
+        } = got
+        else {
+            return got;
+        };
+        return Put::Done {
+            at: next,
+            used: more,
+        };
     }
+    leaf_item(number, words, at, pool, out, used, judged)
 }
 
 // The call of the cycle stands here and not in `put_item`, where each leaf would pay for copies of what it is lent.
@@ -190,10 +186,10 @@ fn inner_item(
     requires { ⌜ GoodTable (now table) l ⌝ }
     requires { ⌜ node < l .nodes ⌝ }
     requires { ⌜ number ≡ nodeAt (now table) (recordOf l node) .number ⌝ }
-    requires { ⌜ (15 ≤ number) × (number ≤ 19) ⌝ }
-    requires { ⌜ at < length (now words) / 2 ⌝ }
-    requires { ⌜ Sure judged (writeNode (now table) l (now pool) node (entries (now words) at)) ⌝ }
-    ensures { λ r. ⌜ Gives (writeNode (now (table .entry)) l (now (pool .entry)) node (entries (now (words .entry)) at)) (now (words .entry)) used (now (out .entry)) r (now (out .exit)) ⌝ }
+    requires { ⌜ IsInner number ⌝ }
+    requires { ⌜ at < roomOf (now words) ⌝ }
+    requires { ⌜ Sure judged (nodeStep (writing (now pool)) (now table) l node (entries (now words) at)) ⌝ }
+    ensures { λ r. ⌜ Gives (nodeStep (writing (now (pool .entry))) (now (table .entry)) l node (entries (now (words .entry)) at)) (now (words .entry)) used (now (out .entry)) r (now (out .exit)) ⌝ }
 {
     let entered = enter(table, l, node, number, words, at, pool, out, used, judged);
     match entered {
@@ -244,8 +240,8 @@ fn put_rounds(
     requires { ⌜ GoodTable (now table) l ⌝ }
     requires { ⌜ node ≤ l .nodes ⌝ }
     requires { ⌜ Falls (now table) from width node ⌝ }
-    requires { ⌜ Sure judged (writeRounds (now table) l (now pool) rounds headed from width (entries (now words) at)) ⌝ }
-    ensures { λ r. ⌜ Gives (writeRounds (now (table .entry)) l (now (pool .entry)) rounds headed from width (entries (now (words .entry)) at)) (now (words .entry)) used (now (out .entry)) r (now (out .exit)) ⌝ }
+    requires { ⌜ Sure judged (roundsStep (writing (now pool)) (now table) l rounds headed from width (entries (now words) at)) ⌝ }
+    ensures { λ r. ⌜ Gives (roundsStep (writing (now (pool .entry))) (now (table .entry)) l rounds headed from width (entries (now (words .entry)) at)) (now (words .entry)) used (now (out .entry)) r (now (out .exit)) ⌝ }
 {
     let mut i = at;
     let mut n = used;
@@ -298,8 +294,8 @@ fn put_stretch(
     requires { ⌜ GoodTable (now table) l ⌝ }
     requires { ⌜ node ≤ l .nodes ⌝ }
     requires { ⌜ Falls (now table) from width node ⌝ }
-    requires { ⌜ Sure judged (writeRow (now table) l (now pool) from width (entries (now words) at)) ⌝ }
-    ensures { λ r. ⌜ Gives (writeRow (now (table .entry)) l (now (pool .entry)) from width (entries (now (words .entry)) at)) (now (words .entry)) used (now (out .entry)) r (now (out .exit)) ⌝ }
+    requires { ⌜ Sure judged (rowStep (writing (now pool)) (now table) l from width (entries (now words) at)) ⌝ }
+    ensures { λ r. ⌜ Gives (rowStep (writing (now (pool .entry))) (now (table .entry)) l from width (entries (now (words .entry)) at)) (now (words .entry)) used (now (out .entry)) r (now (out .exit)) ⌝ }
 {
     let mut i = at;
     let mut n = used;
@@ -389,7 +385,7 @@ fn put_ints(
                 left,
             };
         }
-        let first = words[2 * i];
+        let first = entry::first(words, i);
         n = write_item::put_ready(number, first, out, n);
         i = i + 1;
         field = field + 2;

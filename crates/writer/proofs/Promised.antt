@@ -2,15 +2,15 @@
 -- stands where it was put to be judged, if that has room for it.
 -- Assumes nothing.
 use mathlib.Core.Path.{_≡_, refl, sym, ap, _∙_}
-use mathlib.Core.Bool.{true}
+use mathlib.Core.Bool.{true, false}
 use mathlib.Core.List.{List, [], _++_, append-nil}
-use Prim.Native.Nat.{ℕ, _/_, _%_, _^_, _<_, _≤_}
+use Prim.Native.Nat.{ℕ, _%_, _^_, _<_, _≤_}
 use native.Mathlib.Omega.{arith}
 use native.Mathlib.Nat.{zero-add}
 use lib.ListN.{length, take, drop}
-use lib.Dec.{leb}
+use lib.Dec.{leb, eqb}
 use lib.Seq.{sets, sets-eq, take-append-seam}
-use borrow.Author.Tests.{le-leb, lt-leb, eq-eqb, ne-eqb}
+use borrow.Author.Tests.{le-leb, lt-leb}
 use Rattle.wire.specs.declared.Refusal.{Refusal}
 use Rattle.wire.specs.declared.Refusal.the-variants.{Values, Full}
 use Rattle.wire.specs.declared.Layout.{Layout}
@@ -21,7 +21,8 @@ use Rattle.wire.specs.Tests.{pick, given}
 use Rattle.wire.specs.Shape.{Shape}
 use Rattle.wire.specs.Table.{check, shapeOf}
 use Rattle.wire.specs.Writing.{Wrote, wrote, misfit, wroteAfter, write}
-use Rattle.wire.specs.Answers.{wordsPer, Form, form, noForm, formOf, formed, writeBy, writes, writeAnswer, outWith}
+use Rattle.wire.specs.Answers.{wordsPer, roomOf, Form, form, noForm, formOf, formed, writeBy, writes, writeAnswer, outWith}
+use Rattle.laws.specs.Answered.{Writes}
 use Rattle.output.specs.Bytes.{cap, Puts}
 use Rattle.output.proofs.Counting.{cap-above, cap-within}
 use Rattle.write_list.specs.declared.Put.{Put}
@@ -29,7 +30,7 @@ use Rattle.write_list.specs.declared.Put.the-variants as put
 use Rattle.write_list.specs.Steps.{entries, Sure, Going, GivesBy, Gives}
 use Rattle.writer.specs.declared.Few.{Few}
 use Rattle.writer.specs.declared.Few.the-variants as few
-use Rattle.writer.specs.Promise.{Writes, Tried, OneWriting}
+use Rattle.writer.specs.Promise.{Tried, OneWriting}
 use Rattle.writer.specs.Promise as promise
 use Rattle.write_list.proofs.Entries.{entries-none, entries-more}
 
@@ -56,23 +57,23 @@ module _ {w : Wrote} {ws : List ℕ} {u : ℕ} {before : List ℕ} {r : Put} {ou
   not-put q = rw q at (g .holds)
 
 -- it was judged by putting it in front of some bytes
-module _ {w : Wrote} {ws before : List ℕ} {r : Put} {wroteAfter : List ℕ} (out : List ℕ) (j : Gives w ws 0 before r wroteAfter) where
+module _ {w : Wrote} {ws before : List ℕ} {r : Put} {kept : List ℕ} (out : List ℕ) (j : Gives w ws 0 before r kept) where
   pub judged-misfit : {i : ℕ} → r ≡ put.Misfit i → Writes (formed (length out) w) out (Refused Values i) out
   unfolding formed
   judged-misfit q = writes-no out (ap (formed (length out)) (not-put j q))
 
   module _ {at n : ℕ} (q : r ≡ put.Done at n) where
-    did : AllPut w ws 0 before at n wroteAfter
+    did : AllPut w ws 0 before at n kept
     did = all-put j q
 
     pub judged-sure : Sure true w
     judged-sure = record { never = λ t i e. let z : wrote (did .bytes) (entries ws at) ≡ misfit i = sym (did .is) ∙ e in let o : _≡_ {A = ℕ} 0 1 = cc in omega arith }
 
-    pub judged-more : at < length ws / wordsPer → Writes (formed (length out) w) out (Refused Values at) out
+    pub judged-more : at < roomOf ws → Writes (formed (length out) w) out (Refused Values at) out
     unfolding formed formOf
     judged-more m = writes-no out (ap (formed (length out)) (did .is ∙ ap (wrote (did .bytes)) (entries-more ws at m)))
 
-    module _ (small : length out < 2 ^ 63) (all : length ws / wordsPer ≤ at) where
+    module _ (small : length out < 2 ^ 63) (all : roomOf ws ≤ at) where
       is-form : formed (length out) w ≡ pick (leb (length (did .bytes)) (length out)) (form (did .bytes)) (noForm Full 0)
       unfolding formed formOf
       is-form = ap (formed (length out)) (did .is ∙ ap (wrote (did .bytes)) (entries-none ws at all))
@@ -99,13 +100,13 @@ module _ {w : Wrote} {ws before : List ℕ} {r : Put} {wroteAfter : List ℕ} (o
               stored = e ∙ sets-eq (did .bytes) out 0 (omega (arith, exact)) ∙ ap (λ k. did .bytes ++ drop k out) (zero-add (length (did .bytes)));
             })
 
-        front : n ≤ length before → take n wroteAfter ≡ did .bytes
+        front : n ≤ length before → take n kept ≡ did .bytes
         front h =
-            ap (λ k. take k wroteAfter) exact
+            ap (λ k. take k kept) exact
             ∙ ap (take (length (did .bytes))) (did .puts .stored ∙ sets-eq (did .bytes) before 0 (omega (arith, exact)))
             ∙ take-append-seam (did .bytes) _
 
-        pub judged-short : n ≤ length before → {k : ℕ} {left : List ℕ} → Puts (take n wroteAfter) 0 out k left → Writes (formed (length out) w) out (Done n) left
+        pub judged-short : n ≤ length before → {k : ℕ} {left : List ℕ} → Puts (take n kept) 0 out k left → Writes (formed (length out) w) out (Done n) left
         judged-short h p = stored (p .stored ∙ ap (sets out 0) (front h))
 
         put-whole : (p : Put) (left : List ℕ) → GivesBy w ws 0 out p left → left ≡ sets out 0 (did .bytes)
@@ -141,14 +142,14 @@ module _ (table ws pool out : List ℕ) where
   unfolding writes writeBy
   writes-bad h = writes-no out (rw h)
 
-  pub writes-odd : {l : Layout} → check table ≡ Good l → (length ws % wordsPer ≡ 0 → ⊥) → Writes (writes table ws pool (length out)) out (Refused Values (length ws / wordsPer)) out
-  unfolding writes writeBy given
-  writes-odd h odd = writes-no out (rw (h, ne-eqb (length ws % wordsPer) 0 odd))
+  pub writes-cut : {l : Layout} → check table ≡ Good l → eqb (length ws % wordsPer) 0 ≡ false → Writes (writes table ws pool (length out)) out (Refused Values (roomOf ws)) out
+  unfolding writes writeBy given roomOf
+  writes-cut h cut = writes-no out (rw (h, cut))
 
-  pub writes-even : {l : Layout} {a : WriteAnswer} {left : List ℕ} → check table ≡ Good l → length ws % wordsPer ≡ 0
+  pub writes-whole : {l : Layout} {a : WriteAnswer} {left : List ℕ} → check table ≡ Good l → eqb (length ws % wordsPer) 0 ≡ true
       → Writes (formed (length out) (write (shapeOf table l) pool (entries ws 0))) out a left → Writes (writes table ws pool (length out)) out a left
   unfolding writes writeBy given entries
-  writes-even h even w = rw (h, eq-eqb (length ws % wordsPer) 0 even) w
+  writes-whole h whole w = rw (h, whole) w
 
 pub one-writing : OneWriting
 one-writing table ws pool out x y f g =

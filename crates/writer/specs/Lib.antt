@@ -1,3 +1,2 @@
--- What is promised of the public call.
+-- What the contracts cite, and that the public one leaves no choice.
 pub mod Promise
-pub mod RoundTrip

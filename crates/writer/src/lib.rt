@@ -5,15 +5,15 @@ use wire::Refusal;
 use wire::WriteAnswer;
 use write_list::Put;
 ghost use mathlib.Core.Path.{_≡_};
-ghost use Prim.Native.Nat.{_%_};
 ghost use lib.ListN.{length};
 ghost use Rattle.wire.specs.declared.Checked.the-variants.{Good};
 ghost use Rattle.wire.specs.Table.{shapeOf};
 ghost use Rattle.wire.specs.Table.{check as checkOf};
 ghost use Rattle.wire.specs.Writing.{write as writeShape};
 ghost use Rattle.wire.specs.Answers.{formed, writes};
+ghost use Rattle.laws.specs.Answered.{Writes};
 ghost use Rattle.write_list.specs.Steps.{entries};
-ghost use Rattle.writer.specs.Promise.{Writes, Tried};
+ghost use Rattle.writer.specs.Promise.{Tried};
 
 // So long is a form that the first pass keeps.
 const SHORT: usize = 64;
@@ -32,7 +32,6 @@ enum Few {
 // A list of whole entries. The first pass keeps the form where it is short; a longer one is written by a second pass.
 fn write_entries(table: &[u8], l: Layout, words: &[u64], pool: &[u8], out: &mut [u8]) -> WriteAnswer
     requires { ⌜ checkOf (now table) ≡ Good l ⌝ }
-    requires { ⌜ length (now words) % 2 ≡ 0 ⌝ }
     ensures { λ r. ⌜ Writes (formed (length (now (out .entry))) (writeShape (shapeOf (now (table .entry)) l) (now (pool .entry)) (entries (now (words .entry)) 0))) (now (out .entry)) r (now (out .exit)) ⌝ }
 {
     let mut small: [u8; SHORT] = [0; SHORT];
@@ -43,7 +42,7 @@ fn write_entries(table: &[u8], l: Layout, words: &[u64], pool: &[u8], out: &mut 
             place: at,
         },
         Put::Done { at, used } => {
-            if at < words.len() / 2 {
+            if at < entry::room(words.len()) {
                 return WriteAnswer::Refused {
                     why: Refusal::Values,
                     place: at,
@@ -78,12 +77,12 @@ fn put_few(table: &[u8], l: Layout, words: &[u64], out: &mut [u8]) -> Few
     let mut small: [u8; SHORT] = [0; SHORT];
     let front = write_list::put_front(table, l, words, &mut small);
     if front.left == 0 {
-        if words.len() / 2 <= front.at {
-            let used = front.used;
-            if used <= SHORT {
-                if used <= out.len() {
-                    output::put_bytes(&small[..used], out, 0);
-                    return Few::Put { used };
+        if entry::room(words.len()) <= front.at {
+            let n = front.used;
+            if n <= SHORT {
+                if n <= out.len() {
+                    output::put_bytes(&small[..n], out, 0);
+                    return Few::Put { used: n };
                 }
             }
         }
@@ -94,7 +93,6 @@ fn put_few(table: &[u8], l: Layout, words: &[u64], out: &mut [u8]) -> Few
 // A list of whole entries.
 fn write_list(table: &[u8], l: Layout, words: &[u64], pool: &[u8], out: &mut [u8]) -> WriteAnswer
     requires { ⌜ checkOf (now table) ≡ Good l ⌝ }
-    requires { ⌜ length (now words) % 2 ≡ 0 ⌝ }
     ensures { λ r. ⌜ Writes (formed (length (now (out .entry))) (writeShape (shapeOf (now (table .entry)) l) (now (pool .entry)) (entries (now (words .entry)) 0))) (now (out .entry)) r (now (out .exit)) ⌝ }
 {
     let few = put_few(table, l, words, out);
@@ -112,12 +110,12 @@ pub fn write(table: &[u8], words: &[u64], pool: &[u8], out: &mut [u8]) -> WriteA
     match checked {
         Checked::Bad { why, place } => WriteAnswer::Refused { why, place },
         Checked::Good { layout } => {
-            if words.len() % 2 == 0 {
+            if entry::whole(words.len()) {
                 return write_list(table, layout, words, pool, out);
             }
             WriteAnswer::Refused {
                 why: Refusal::Values,
-                place: words.len() / 2,
+                place: entry::room(words.len()),
             }
         }
     }

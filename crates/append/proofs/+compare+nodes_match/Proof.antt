@@ -120,6 +120,8 @@ compare-nodes-match-requires t c κs =
       record {
         old = asked .old;
         new = asked .new;
+        few-old = asked .few-old;
+        few-new = asked .few-new;
         left = omega (arith, asked .left);
         right = omega (arith, asked .right);
         room = omega (arith, asked .room, c .before .before .before .before .loop .inv .1);

@@ -2,7 +2,7 @@
 -- Assumes nothing.
 use mathlib.Core.Path.{sym, _∙_}
 use Rattle.wire.specs.Answers.{askBy}
-use Rattle.laws.proofs.Tables.{good-table}
+use Rattle.laws.proofs.Tables.{good-table, within-limits}
 use borrow.Author.Needs.{needs}
 use Rattle.append.proofs.after_old.Statement.{statement}
 use Rattle.append.proofs.after_old.Tie as tie
@@ -17,7 +17,10 @@ enum-known-layout : tie.Need-enum-known-layout
 enum-known-layout c = search needs
 
 roots-append-requires : tie.Need-roots-append-requires
-roots-append-requires c κs = (c .before .before .before .before .before .before .pre, good-table _ _ (sym (c .before .before .before .check .ensures) ∙ c .before .layout .given .1))
+roots-append-requires c κs =
+    let old = c .before .before .before .before .before .before .pre in
+    let new = sym (c .before .before .before .check .ensures) ∙ c .before .layout .given .1 in
+    ((old .0, good-table _ _ new), (old .1, within-limits _ _ new))
 
 returns : tie.Need-returns
 unfolding askBy

@@ -2,7 +2,7 @@
 -- Assumes nothing.
 use mathlib.Core.Path.{sym, _∙_}
 use Rattle.wire.specs.Answers.{askBy, asks}
-use Rattle.laws.proofs.Tables.{good-table}
+use Rattle.laws.proofs.Tables.{good-table, within-limits}
 use borrow.Author.Needs.{needs}
 use Rattle.append.proofs.appends.Statement.{statement}
 use Rattle.append.proofs.appends.Tie as tie
@@ -17,7 +17,9 @@ enum-known-layout : tie.Need-enum-known-layout
 enum-known-layout c = search needs
 
 after-old-requires : tie.Need-after-old-requires
-after-old-requires c κs = good-table _ _ (sym (c .before .before .before .check .ensures) ∙ c .before .layout .given .1)
+after-old-requires c κs =
+    let good = sym (c .before .before .before .check .ensures) ∙ c .before .layout .given .1 in
+    (good-table _ _ good, within-limits _ _ good)
 
 returns : tie.Need-returns
 unfolding askBy asks

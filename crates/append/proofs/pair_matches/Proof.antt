@@ -11,7 +11,7 @@ slice-aggregate-nodes-match c = search needs
 nodes-match-requires : tie.Need-nodes-match-requires
 nodes-match-requires c κs =
     let asked = c .before .before .before .pre in
-    fresh-asked (asked .0 .0) (asked .0 .1) (asked .1 .0) (asked .1 .1)
+    fresh-asked (asked .0) (asked .1 .0) (asked .1 .1 .0) (asked .1 .1 .1)
 
 returns : tie.Need-returns
 returns c = search needs

@@ -11,24 +11,24 @@ appends-requires c κs = search needs
 enum-known-got : tie.Need-enum-known-got
 enum-known-got c = search needs
 
-cast-yes : tie.Need-cast-yes
-cast-yes c = search needs
+yes-requires : tie.Need-yes-requires
+yes-requires c κs = search needs
 
 enum-known-got-2 : tie.Need-enum-known-got-2
 enum-known-got-2 c = search needs
 
-side-number-requires : tie.Need-side-number-requires
-side-number-requires c κs = search needs
+side-requires : tie.Need-side-requires
+side-requires c κs = search needs
 
-number-requires : tie.Need-number-requires
-number-requires c κs = search needs
+refusal-requires : tie.Need-refusal-requires
+refusal-requires c κs = search needs
 
 returns : tie.Need-returns
-returns c = ask-says (c .before .before .before .appends .ensures) (c .before .got .given .1)
+returns c = ask-says (c .before .before .before .before .appends .ensures) (c .before .before .got .given .1) (c .yes .ensures)
 
 returns-2 : tie.Need-returns-2
 returns-2 c =
-    ask-refused (c .before .before .before .before .before .appends .ensures) (c .before .before .before .got2 .given .1) (c .number .ensures) (c .before .side-number .ensures)
+    ask-refused (c .before .before .before .before .before .appends .ensures) (c .before .before .before .got2 .given .1) (c .refusal .ensures) (c .before .side .ensures)
 
 pub reystavem-append-spec : {M : Type 1} → statement M
 reystavem-append-spec =
@@ -36,9 +36,9 @@ reystavem-append-spec =
     (tie.spec
     appends-requires
     enum-known-got
-    cast-yes
+    yes-requires
     enum-known-got-2
-    side-number-requires
-    number-requires
+    side-requires
+    refusal-requires
     returns
     returns-2)

@@ -14,15 +14,15 @@ enum-told c = search needs
 enum-known-got : tie.Need-enum-known-got
 enum-known-got c = search needs
 
-number-requires : tie.Need-number-requires
-number-requires c κs = search needs
+refusal-requires : tie.Need-refusal-requires
+refusal-requires c κs = search needs
 
 returns : tie.Need-returns
 returns c = check-good (c .before .before .check .ensures) (c .enum-told .given .1)
 
 returns-2 : tie.Need-returns-2
-returns-2 c = check-bad (c .before .before .before .before .check .ensures) (c .before .before .got .given .1) (c .number .ensures)
+returns-2 c = check-bad (c .before .before .before .before .check .ensures) (c .before .before .got .given .1) (c .refusal .ensures)
 
 pub reystavem-check-spec : {M : Type 1} → statement M
 reystavem-check-spec =
-    tie.close (tie.spec check-requires enum-told enum-known-got number-requires returns returns-2)
+    tie.close (tie.spec check-requires enum-told enum-known-got refusal-requires returns returns-2)

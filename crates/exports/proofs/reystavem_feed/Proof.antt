@@ -9,8 +9,8 @@ use Rattle.exports.proofs.reystavem_feed.Tie as tie
 feed-lent-requires : tie.Need-feed-lent-requires
 feed-lent-requires c κs = search needs
 
-number-requires : tie.Need-number-requires
-number-requires c κs = search needs
+feed-requires : tie.Need-feed-requires
+feed-requires c κs = search needs
 
 same-length : tie.Need-same-length
 same-length c = search needs
@@ -21,8 +21,8 @@ same-length-2 c = search needs
 returns : tie.Need-returns
 returns c =
     let f = c .before .before .before .before .before .feed-lent .ensures in
-    record { number = c .number .ensures ∙ ap feedNumber (f .answer); idx = f .idx; len = f .len; within = f .within; rest = f .rest; array = f .array; message = f .message }
+    record { number = c .feed .ensures ∙ ap feedNumber (f .answer); idx = f .idx; len = f .len; within = f .within; rest = f .rest; array = f .array; message = f .message }
 
 pub reystavem-feed-spec : {M : Type 1} → statement M
 reystavem-feed-spec =
-    tie.close (tie.spec feed-lent-requires number-requires same-length same-length-2 returns)
+    tie.close (tie.spec feed-lent-requires feed-requires same-length same-length-2 returns)

@@ -14,8 +14,8 @@ enum-known-got c = search needs
 enum-known-got-2 : tie.Need-enum-known-got-2
 enum-known-got-2 c = search needs
 
-number-requires : tie.Need-number-requires
-number-requires c κs = search needs
+refusal-requires : tie.Need-refusal-requires
+refusal-requires c κs = search needs
 
 same-length : tie.Need-same-length
 same-length c = search needs
@@ -27,7 +27,7 @@ same-length-2 : tie.Need-same-length-2
 same-length-2 c = search needs
 
 returns-2 : tie.Need-returns-2
-returns-2 c = write-refused (c .before .before .before .before .before .before .write .ensures) (c .before .before .got2 .given .1) (c .number .ensures)
+returns-2 c = write-refused (c .before .before .before .before .before .before .write .ensures) (c .before .before .got2 .given .1) (c .refusal .ensures)
 
 pub reystavem-write-spec : {M : Type 1} → statement M
 reystavem-write-spec =
@@ -36,7 +36,7 @@ reystavem-write-spec =
     write-requires
     enum-known-got
     enum-known-got-2
-    number-requires
+    refusal-requires
     same-length
     returns
     same-length-2

@@ -12,10 +12,12 @@ abbrev μ-loop : tie.MeasureT-loop
 μ-loop old l new m path₀ i₀ j₀ depth₀ path i j depth = i
 
 loop-holds : tie.Need-loop-holds Inv-loop μ-loop
-loop-holds c = gone-start _ (c .before .before .pre .0) (c .before .before .pre .1)
+loop-holds c = gone-start _ (c .before .before .pre .0 .0) (c .before .before .pre .0 .1)
 
 next-pair-requires : tie.Need-next-pair-requires Inv-loop μ-loop
-next-pair-requires c κs = record { old = c .before .before .before .pre .0; new = c .before .before .before .pre .1; left = c .loop .inv .left; right = c .loop .inv .right }
+next-pair-requires c κs =
+    let pre = c .before .before .before .pre in
+    record { old = pre .0 .0; new = pre .0 .1; few-old = pre .1 .0; few-new = pre .1 .1; left = c .loop .inv .left; right = c .loop .inv .right }
 
 enum-known-position : tie.Need-enum-known-position Inv-loop μ-loop
 enum-known-position c = search needs

@@ -58,7 +58,7 @@ pair-matches-requires c κs =
     let here = c .before .before .before .before .loop .inv .0 in
     let lower = falls-first (here .olds) (c .before .before .before .loop-test .taken) in
     let below = falls-first (here .news) (omega arith) in
-    ((pair .old, pair .new), (omega (arith, pair .left), omega (arith, pair .right)))
+    ((pair .old, pair .new), ((pair .few-old, pair .few-new), (omega (arith, pair .left), omega (arith, pair .right))))
 
 returns-3 : tie.Need-returns-3 Inv-loop μ-loop
 returns-3 c = left-apart (c .before .before .before .before .before .before .loop .inv .0) (c .before .before .before .before .before .loop-test .taken) (omega arith) (c .before .before .before .u16-at .ensures .0) (c .before .before .u16-at2 .ensures .0) (c .before .pair-matches .ensures) (not-true _ (c .if3 .taken))

@@ -16,8 +16,8 @@ enum-known-own c = search needs
 enum-known-own-2 : tie.Need-enum-known-own-2
 enum-known-own-2 c = search needs
 
-put-entry-requires : tie.Need-put-entry-requires
-put-entry-requires c κs = search needs
+put-requires : tie.Need-put-requires
+put-requires c κs = search needs
 
 add-behind : tie.Need-add-behind
 add-behind c =
@@ -35,7 +35,7 @@ same-length : tie.Need-same-length
 same-length c = search needs
 
 returns-2 : tie.Need-returns-2
-returns-2 c = puts-entry (sym (c .before .before .before .before .before .before .before .leaf-bytes .ensures) ∙ c .before .before .before .before .before .own2 .given .1) (c .before .before .put-entry .ensures)
+returns-2 c = puts-entry (sym (c .before .before .before .before .before .before .before .leaf-bytes .ensures) ∙ c .before .before .before .before .before .own2 .given .1) (c .before .before .put .ensures)
 
 pub read-leaf-spec : {M : Type 1} → statement M
 read-leaf-spec =
@@ -44,7 +44,7 @@ read-leaf-spec =
     leaf-bytes-requires
     enum-known-own
     enum-known-own-2
-    put-entry-requires
+    put-requires
     add-behind
     add-count
     returns

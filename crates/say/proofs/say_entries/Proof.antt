@@ -2,7 +2,9 @@
 -- Assumes nothing.
 use Prim.{Unit}
 use Prim.Native.Nat.{_-_}
+use native.Mathlib.Omega.{arith}
 use borrow.Author.Needs.{needs}
+use Rattle.wire.specs.Answers.{roomOf}
 use Rattle.say.proofs.say_entries.Statement.{statement}
 use Rattle.say.proofs.say_entries.Tie as tie
 
@@ -15,29 +17,19 @@ abbrev μ-loop : tie.MeasureT-loop
 loop-holds : tie.Need-loop-holds Inv-loop μ-loop
 loop-holds c = search needs
 
+room-requires : tie.Need-room-requires Inv-loop μ-loop
+room-requires c κs = search needs
+
 returns : tie.Need-returns Inv-loop μ-loop
 returns c = search needs
 
-mul-say-entry : tie.Need-mul-say-entry Inv-loop μ-loop
-mul-say-entry c = search needs
+first-requires : tie.Need-first-requires Inv-loop μ-loop
+unfolding roomOf
+first-requires c κs = omega arith
 
-mul-say-entry-2 : tie.Need-mul-say-entry-2 Inv-loop μ-loop
-mul-say-entry-2 c = search needs
-
-shared-slice-read-say-entry : tie.Need-shared-slice-read-say-entry Inv-loop μ-loop
-shared-slice-read-say-entry c = search needs
-
-mul-say-entry-3 : tie.Need-mul-say-entry-3 Inv-loop μ-loop
-mul-say-entry-3 c = search needs
-
-add-say-entry : tie.Need-add-say-entry Inv-loop μ-loop
-add-say-entry c = search needs
-
-mul-say-entry-4 : tie.Need-mul-say-entry-4 Inv-loop μ-loop
-mul-say-entry-4 c = search needs
-
-shared-slice-read-say-entry-2 : tie.Need-shared-slice-read-say-entry-2 Inv-loop μ-loop
-shared-slice-read-say-entry-2 c = search needs
+second-requires : tie.Need-second-requires Inv-loop μ-loop
+unfolding roomOf
+second-requires c κs = omega arith
 
 say-entry-requires : tie.Need-say-entry-requires Inv-loop μ-loop
 say-entry-requires c κs = search needs
@@ -61,14 +53,10 @@ say-entries-spec =
     Inv-loop
     μ-loop
     loop-holds
+    room-requires
     returns
-    mul-say-entry
-    mul-say-entry-2
-    shared-slice-read-say-entry
-    mul-say-entry-3
-    add-say-entry
-    mul-say-entry-4
-    shared-slice-read-say-entry-2
+    first-requires
+    second-requires
     say-entry-requires
     add-i
     loop-less

@@ -13,11 +13,15 @@ use Rattle.utf8.proofs.char_of.Tie as tie
 
 returns : tie.Need-returns
 unfolding charOf pick both
-returns c = rw (lt-ltb _ _ (c .if1 .taken))
+returns c = rw (lt-ltb 4 (c .before .before .args .count) (omega arith))
 
 returns-2 : tie.Need-returns-2
 unfolding charOf pick both
-returns-2 c = rw (le-ltb _ _ (c .before .if1 .left), lt-ltb _ _ (c .if2 .taken))
+returns-2 c = let a = c .before .before .before .args in rw (le-ltb 4 (a .count) (omega arith), lt-ltb _ _ (c .if2 .taken))
+
+returns-3 : tie.Need-returns-3
+unfolding charOf pick both
+returns-3 c = rw (le-ltb _ _ (c .before .before .if1 .left), le-ltb _ _ (c .before .if2 .left), c .if3 .taken)
 
 slice-aggregate-bytes : tie.Need-slice-aggregate-bytes
 slice-aggregate-bytes c = simp length-take (omega arith)
@@ -25,13 +29,9 @@ slice-aggregate-bytes c = simp length-take (omega arith)
 is-text-requires : tie.Need-is-text-requires
 is-text-requires c κs = search needs
 
-returns-3 : tie.Need-returns-3
-unfolding charOf pick
-returns-3 c = rw (le-ltb _ _ (c .before .before .before .before .if1 .left), le-ltb _ _ (c .before .before .before .if2 .left), no-text _ (sym (c .before .is-text .ensures) ∙ not-true _ (c .if3 .taken)))
-
 returns-4 : tie.Need-returns-4
-unfolding charOf pick both
-returns-4 c = rw (le-ltb _ _ (c .before .before .before .before .before .if1 .left), le-ltb _ _ (c .before .before .before .before .if2 .left), c .if4 .taken)
+unfolding charOf pick
+returns-4 c = rw (le-ltb _ _ (c .before .before .before .before .before .if1 .left), le-ltb _ _ (c .before .before .before .before .if2 .left), no-text _ (sym (c .before .is-text .ensures) ∙ not-true _ (c .if4 .taken)))
 
 first-char-requires : tie.Need-first-char-requires
 first-char-requires c κs = search needs
@@ -42,7 +42,7 @@ add-end c = search needs
 returns-5 : tie.Need-returns-5
 unfolding charOf pick both
 returns-5 c =
-    rw (le-ltb _ _ (c .before .before .before .before .before .before .if1 .left), le-ltb _ _ (c .before .before .before .before .before .if2 .left), lt-ltb _ _ (some (c .before .if4 .left)), sym (c .before .before .before .is-text .ensures) ∙ not-false _ (c .before .before .if3 .left), c .first-char .ensures)
+    rw (le-ltb _ _ (c .before .before .before .before .before .before .if1 .left), le-ltb _ _ (c .before .before .before .before .before .if2 .left), lt-ltb _ _ (some (c .before .before .before .before .if3 .left)), sym (c .before .before .is-text .ensures) ∙ not-false _ (c .before .if4 .left), c .first-char .ensures)
 
 pub char-of-spec : {M : Type 1} → statement M
 char-of-spec =
@@ -50,9 +50,9 @@ char-of-spec =
     (tie.spec
     returns
     returns-2
+    returns-3
     slice-aggregate-bytes
     is-text-requires
-    returns-3
     returns-4
     first-char-requires
     add-end

@@ -3,7 +3,8 @@
 use mathlib.Core.Path.{sym, _∙_}
 use native.Mathlib.Nat.{zero-add}
 use native.Mathlib.Omega.{arith}
-use lib.ListN.{length-take}
+use lib.ListN.{length, length-take}
+use denote.Ref.{now}
 use borrow.Author.Needs.{needs}
 use borrow.Author.Tests.{lt-ltb, le-ltb, not-true, not-false}
 use Rattle.wire.specs.Tests.{pick}
@@ -13,7 +14,10 @@ use Rattle.utf8.proofs.content_of.Tie as tie
 
 returns : tie.Need-returns
 unfolding contentOf pick
-returns c = rw (lt-ltb _ _ (c .if1 .taken))
+returns c = let a = c .before .before .args in rw (lt-ltb (length (now (a .part))) (a .count) (omega arith))
+
+add-end : tie.Need-add-end
+add-end c = omega arith
 
 slice-aggregate-is-content : tie.Need-slice-aggregate-is-content
 slice-aggregate-is-content c = simp length-take (omega arith)
@@ -25,9 +29,6 @@ returns-2 : tie.Need-returns-2
 unfolding contentOf pick
 returns-2 c = rw (le-ltb _ _ (c .before .before .before .if1 .left), sym (c .before .is-content .ensures) ∙ not-true _ (c .if2 .taken))
 
-add-end : tie.Need-add-end
-add-end c = search needs
-
 returns-3 : tie.Need-returns-3
 unfolding contentOf pick
 returns-3 c = rw (le-ltb _ _ (c .before .before .before .if1 .left), sym (c .before .is-content .ensures) ∙ not-false _ (c .if2 .left), zero-add)
@@ -37,8 +38,8 @@ content-of-spec =
     tie.close
     (tie.spec
     returns
+    add-end
     slice-aggregate-is-content
     is-content-requires
     returns-2
-    add-end
     returns-3)

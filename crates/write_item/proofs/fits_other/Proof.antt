@@ -48,7 +48,7 @@ returns-7 : tie.Need-returns-7
 returns-7 c = absurd (omega arith)
 
 returns-8 : tie.Need-returns-8
-returns-8 c = absurd (c .before .before .before .before .pre .0 .outer (omega arith) (omega arith))
+returns-8 c = absurd (c .before .before .before .before .pre .0 .outer (omega arith, omega arith))
 
 returns-9 : tie.Need-returns-9
 returns-9 c = absurd (omega (arith, c .before .before .before .before .before .before .pre .0 .small))

@@ -3,6 +3,7 @@
 use mathlib.Core.Path.{refl, sym, _∙_}
 use native.Mathlib.Omega.{arith}
 use borrow.Author.Needs.{needs}
+use Rattle.wire.specs.Answers.{roomOf}
 use Rattle.laws.proofs.Splits.{not-both}
 use Rattle.write_item.proofs.is_ready.Statement.{statement}
 use Rattle.write_item.proofs.is_ready.Tie as tie
@@ -13,38 +14,32 @@ returns c = record { is = λ e. not-both e refl }
 returns-2 : tie.Need-returns-2
 returns-2 c = record { is = λ e. not-both e refl }
 
+room-requires : tie.Need-room-requires
+room-requires c κs = search needs
+
 returns-3 : tie.Need-returns-3
 returns-3 c = record { is = λ e. not-both e refl }
 
-mul-i : tie.Need-mul-i
-mul-i c = search needs
+first-requires : tie.Need-first-requires
+unfolding roomOf
+first-requires c κs = omega arith
 
-mul-first : tie.Need-mul-first
-mul-first c = search needs
-
-shared-slice-read-first : tie.Need-shared-slice-read-first
-shared-slice-read-first c = search needs
-
-add-second : tie.Need-add-second
-add-second c = search needs
-
-mul-second : tie.Need-mul-second
-mul-second c = search needs
-
-shared-slice-read-second : tie.Need-shared-slice-read-second
-shared-slice-read-second c = search needs
+second-requires : tie.Need-second-requires
+unfolding roomOf
+second-requires c κs = omega arith
 
 fits-int-requires : tie.Need-fits-int-requires
 fits-int-requires c κs = search needs
 
 returns-4 : tie.Need-returns-4
+unfolding roomOf
 returns-4 c =
     record {
       is = λ e. record {
         low = omega arith;
         wide = omega arith;
         more = omega arith;
-        fits = λ pool. rw (c .before .if4 .taken) (sym (c .fits-int .ensures .with 0 .at pool) ∙ e);
+        fits = λ pool. rw (← (c .before .before .before .first .ensures), ← (c .before .before .second .ensures), c .before .if4 .taken) (sym (c .fits-int .ensures .with 0 .at pool) ∙ e);
       };
     }
 
@@ -57,13 +52,10 @@ is-ready-spec =
     (tie.spec
     returns
     returns-2
+    room-requires
     returns-3
-    mul-i
-    mul-first
-    shared-slice-read-first
-    add-second
-    mul-second
-    shared-slice-read-second
+    first-requires
+    second-requires
     fits-int-requires
     returns-4
     returns-5)

@@ -73,7 +73,7 @@ returns-8 : tie.Need-returns-8
 returns-8 c = absurd (omega arith)
 
 returns-9 : tie.Need-returns-9
-returns-9 c = absurd (c .before .before .before .before .before .before .pre .0 .outer (omega arith) (omega arith))
+returns-9 c = absurd (c .before .before .before .before .before .before .pre .0 .outer (omega arith, omega arith))
 
 returns-10 : tie.Need-returns-10
 returns-10 c = absurd (omega (arith, c .before .before .before .before .before .before .before .before .pre .0 .small))

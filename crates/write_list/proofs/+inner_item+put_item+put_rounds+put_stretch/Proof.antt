@@ -1,23 +1,27 @@
 -- The cycle of calls meets its contracts: an item, one with children, the rounds of the stretch that follows it, one round. The node's number falls
 -- from an item to those of its stretch.
 -- Assumes nothing.
-use mathlib.Core.Path.{_≡_, refl}
-use mathlib.Core.Logic.{⊎-elim}
+use mathlib.Core.Path.{_≡_, refl, sym, _∙_}
 use Prim.Native.Nat.{ℕ, _+_, _*_, _<_}
 use native.Mathlib.Omega.{arith}
 use lib.ListN.{length}
 use borrow.Author.Needs.{needs}
 use borrow.Fn.Kinds.{In}
 use borrow.Fn.PlainCycle.{Measures, is, falls, and}
-use Rattle.table.specs.Parts.{Falls}
-use Rattle.table.proofs.Stretches.{falls-first, falls-next}
+use Rattle.wire.specs.Writing.{writing}
+use Rattle.wire.specs.Answers.{roomOf}
+use Rattle.table.specs.Parts.{Falls, rowStep, roundsStep}
+use Rattle.table.proofs.Stretches.{falls-first, falls-next, row-end, rounds-end}
+use Rattle.entry.proofs.room.Reads as room-reads
+use Rattle.table.proofs.is_inner.Reads as is-inner-reads
 use Rattle.table.proofs.kind_at.Reads as kind-at-reads
 use Rattle.table.proofs.u16_at.Reads as u16-at-reads
-use Rattle.write_item.specs.Own.{IsLeaf}
-use Rattle.write_list.specs.Steps.{entries, writeRow, writeRounds, Going}
+use Rattle.laws.specs.KindRanges.{IsLeaf}
+use Rattle.laws.proofs.KindRanges.{is-inner, not-inner}
+use Rattle.write_list.specs.Steps.{entries, Going}
 use Rattle.write_list.proofs.Going.{few-bytes, going-begin, no-going-on, gives-whole, sure-rest, sure-first, first-misfit, first-done, going-end, gives-misfit}
 use Rattle.write_list.proofs.Nodes.{node-end, node-number, node-leaf, entered-on, entered-misfit}
-use Rattle.write_list.proofs.Rounds.{flat-writes, stretch-none, stretch-first, rounds-none, rounds-first, rounds-misfit, flat-sure, flat-gives}
+use Rattle.write_list.proofs.Rounds.{flattens, flattened-falls, stretch-first, round-first, round-misfit, flat-sure, flat-gives}
 use Rattle.write_list.proofs.begin.Reads as begin-reads
 use Rattle.write_list.proofs.enter.Reads as enter-reads
 use Rattle.table.proofs.flat.Reads as flat-reads
@@ -70,15 +74,16 @@ module _ (t : ℕ) where
   item-at = and 4 put-item-kinds.ps (is 4 put-item-kinds.ps μ-item t) put-item.Pre
 
   abbrev item-calls : put-item-lts.Claims
-  item-calls = (kind-at-reads.Asked, kind-at-reads.Learnt, and 4 inner-item-kinds.ps (falls 4 inner-item-kinds.ps _<_ μ-inner t) inner-item.Pre, inner-item.Post, leaf-item-reads.Asked, leaf-item-reads.Learnt)
+  item-calls = (room-reads.Asked, room-reads.Learnt, kind-at-reads.Asked, kind-at-reads.Learnt, is-inner-reads.Asked, is-inner-reads.Learnt, and 4 inner-item-kinds.ps (falls 4 inner-item-kinds.ps _<_ μ-inner t) inner-item.Pre, inner-item.Post, leaf-item-reads.Asked, leaf-item-reads.Learnt)
 
   item-returns : put-item-lts.Need-returns item-calls item-at put-item.Post
-  item-returns c = let s = c .before .before .before .before .before in gives-misfit (node-end (s .pre .1 .0) (s .pre .1 .1 .0) _ _ _ (c .if1 .taken))
+  unfolding roomOf
+  item-returns c = gives-misfit (node-end (c .before .before .before .before .before .before .pre .1 .0) (c .before .before .before .before .before .before .pre .1 .1 .0) _ _ _ (omega arith))
 
   item-inner-requires : put-item-lts.Need-inner-item-requires item-calls item-at put-item.Post
+  unfolding roomOf
   item-inner-requires c κs =
-      let s = c .before .before .before .before .before .before .before .before .before in
-      (item-inner _ (s .pre .0), (s .pre .1 .0, (s .pre .1 .1 .0, (c .before .before .before .kind-at .ensures, ((c .before .before .if2 .left, omega arith), (c .before .before .before .before .if1 .left, s .pre .1 .1 .1))))))
+      (item-inner _ (c .before .before .before .before .before .before .before .before .before .before .pre .0), (c .before .before .before .before .before .before .before .before .before .before .pre .1 .0, (c .before .before .before .before .before .before .before .before .before .before .pre .1 .1 .0, (c .before .before .before .kind-at .ensures, (is-inner _ (sym (c .before .before .is-inner .ensures) ∙ c .before .if2 .taken), (omega arith, c .before .before .before .before .before .before .before .before .before .before .pre .1 .1 .1))))))
 
   item-returns-2 : put-item-lts.Need-returns-2 item-calls item-at put-item.Post
   item-returns-2 c = c .before .before .before .before .inner-item .ensures
@@ -87,22 +92,21 @@ module _ (t : ℕ) where
   item-returns-3 c = rw (c .before .got .given .1) at (c .before .before .before .before .before .inner-item .ensures)
 
   item-leaf-requires : put-item-lts.Need-leaf-item-requires item-calls item-at put-item.Post
+  unfolding roomOf
   item-leaf-requires c κs =
-      let s = c .before .before .before .before .before .before .before .before in
       let leaf : IsLeaf _ = record {
-        small = node-number (s .pre .1 .0) (s .pre .1 .1 .0) (s .args .pool .now) (s .args .words .now) (s .args .at) (c .before .before .kind-at .ensures);
-        outer = λ lo hi. ⊎-elim (λ w. omega arith) (λ w. omega (arith, w .1)) (c .before .if2 .came);
+        small = node-number (c .before .before .before .before .before .before .before .before .before .before .pre .1 .0) (c .before .before .before .before .before .before .before .before .before .before .pre .1 .1 .0) (c .before .before .before .before .before .before .before .before .before .before .args .pool .now) (c .before .before .before .before .before .before .before .before .before .before .args .words .now) (c .before .before .before .before .before .before .before .before .before .before .args .at) (c .before .before .before .kind-at .ensures);
+        outer = not-inner _ (sym (c .before .before .is-inner .ensures) ∙ c .before .if2 .left);
       } in
-      (leaf, (c .before .before .before .if1 .left, rw (← (node-leaf (s .pre .1 .0) (s .pre .1 .1 .0) _ _ _ (c .before .before .kind-at .ensures) leaf)) (s .pre .1 .1 .1)))
+      (leaf, (omega arith, rw (← (node-leaf (c .before .before .before .before .before .before .before .before .before .before .pre .1 .0) (c .before .before .before .before .before .before .before .before .before .before .pre .1 .1 .0) _ _ _ (c .before .before .before .kind-at .ensures) leaf)) (c .before .before .before .before .before .before .before .before .before .before .pre .1 .1 .1)))
 
   item-returns-4 : put-item-lts.Need-returns-4 item-calls item-at put-item.Post
   item-returns-4 c =
-      let s = c .before .before .before .before .before .before .before .before .before .before .before in
       let leaf : IsLeaf _ = record {
-        small = node-number (s .pre .1 .0) (s .pre .1 .1 .0) (s .args .pool .now) (s .args .words .now) (s .args .at) (c .before .before .before .before .before .kind-at .ensures);
-        outer = λ lo hi. ⊎-elim (λ w. omega arith) (λ w. omega (arith, w .1)) (c .before .before .before .before .if2 .came);
+        small = node-number (c .before .before .before .before .before .before .before .before .before .before .before .before .before .pre .1 .0) (c .before .before .before .before .before .before .before .before .before .before .before .before .before .pre .1 .1 .0) (c .before .before .before .before .before .before .before .before .before .before .before .before .before .args .pool .now) (c .before .before .before .before .before .before .before .before .before .before .before .before .before .args .words .now) (c .before .before .before .before .before .before .before .before .before .before .before .before .before .args .at) (c .before .before .before .before .before .before .kind-at .ensures);
+        outer = not-inner _ (sym (c .before .before .before .before .before .is-inner .ensures) ∙ c .before .before .before .before .if2 .left);
       } in
-      rw (node-leaf (s .pre .1 .0) (s .pre .1 .1 .0) _ _ _ (c .before .before .before .before .before .kind-at .ensures) leaf) (c .before .before .leaf-item .ensures)
+      rw (node-leaf (c .before .before .before .before .before .before .before .before .before .before .before .before .before .pre .1 .0) (c .before .before .before .before .before .before .before .before .before .before .before .before .before .pre .1 .1 .0) _ _ _ (c .before .before .before .before .before .before .kind-at .ensures) leaf) (c .before .before .leaf-item .ensures)
 
 -- ---- one with children
 
@@ -117,10 +121,11 @@ module _ (t : ℕ) where
   inner-enter-requires c κs = c .before .before .before .before .before .pre .1
 
   inner-add-next : inner-item-lts.Need-add-next inner-calls inner-at inner-item.Post
+  unfolding roomOf
   inner-add-next c = omega (arith, (entered-on (c .before .before .before .before .before .enter .ensures) (c .before .entered .given .1)) .more)
 
   inner-returns : inner-item-lts.Need-returns inner-calls inner-at inner-item.Post
-  inner-returns c = going-end ((entered-on (c .before .before .before .before .before .before .before .enter .ensures) (c .before .before .before .entered .given .1)) .going) (rounds-none _ _ _ _ _ _ _ _ (omega arith))
+  inner-returns c = going-end ((entered-on (c .before .before .before .before .before .before .before .enter .ensures) (c .before .before .before .entered .given .1)) .going) (rounds-end _ _ _ _ _ _ _ _ (omega arith))
 
   inner-flat-requires : inner-item-lts.Need-flat-requires inner-calls inner-at inner-item.Post
   inner-flat-requires c κs = let s = c .before .before .before .before .before .before .before .before .before .before .before .before .before in (s .pre .1 .0, (omega (arith, s .pre .1 .1 .0), (entered-on (c .before .before .before .before .before .before .before .enter .ensures) (c .before .before .before .entered .given .1)) .falls))
@@ -128,8 +133,8 @@ module _ (t : ℕ) where
   inner-put-rounds-requires : inner-item-lts.Need-put-rounds-requires inner-calls inner-at inner-item.Post
   inner-put-rounds-requires c κs =
       let s = c .before .before .before .before .before .before .before .before .before .before .before .before .before .before .before in
-      let w = flat-writes (s .pre .1 .0) (omega (arith, s .pre .1 .1 .0)) (c .before .flat .ensures) in
-      (inner-rounds _ (s .pre .0), (s .pre .1 .0, (omega (arith, s .pre .1 .1 .0), (w .falls, flat-sure w _ _ _ (sure-rest (few-bytes _ (s .good .1 .1 .1 .1 .1 .1 .1 .0 .1)) ((entered-on (c .before .before .before .before .before .before .before .before .before .enter .ensures) (c .before .before .before .before .before .entered .given .1)) .going) (s .pre .1 .1 .1 .1 .1 .1))))))
+      let w = flattens (s .pre .1 .0) (omega (arith, s .pre .1 .1 .0)) (c .before .flat .ensures) in
+      (inner-rounds _ (s .pre .0), (s .pre .1 .0, (omega (arith, s .pre .1 .1 .0), (flattened-falls w, flat-sure w _ _ _ (sure-rest (few-bytes _ (s .good .1 .1 .1 .1 .1 .1 .1 .0 .1)) ((entered-on (c .before .before .before .before .before .before .before .before .before .enter .ensures) (c .before .before .before .before .before .entered .given .1)) .going) (s .pre .1 .1 .1 .1 .1 .1))))))
 
   inner-returns-2 : inner-item-lts.Need-returns-2 inner-calls inner-at inner-item.Post
   inner-returns-2 c = gives-misfit (entered-misfit (c .before .before .before .before .enter .ensures) (c .enum-told .given .1))
@@ -137,13 +142,13 @@ module _ (t : ℕ) where
   inner-returns-3 : inner-item-lts.Need-returns-3 inner-calls inner-at inner-item.Post
   inner-returns-3 c =
       let s = c .before .before .before .before .before .before .before .before .before .before .before .before .before .before .before .before .before .before in
-      gives-whole (few-bytes _ (s .good .1 .1 .1 .1 .1 .1 .1 .0 .1)) ((entered-on (c .before .before .before .before .before .before .before .before .before .before .before .before .enter .ensures) (c .before .before .before .before .before .before .before .before .entered .given .1)) .going) (flat-gives (flat-writes (s .pre .1 .0) (omega (arith, s .pre .1 .1 .0)) (c .before .before .before .before .flat .ensures)) _ _ _ (c .before .before .put-rounds .ensures))
+      gives-whole (few-bytes _ (s .good .1 .1 .1 .1 .1 .1 .1 .0 .1)) ((entered-on (c .before .before .before .before .before .before .before .before .before .before .before .before .enter .ensures) (c .before .before .before .before .before .before .before .before .entered .given .1)) .going) (flat-gives (flattens (s .pre .1 .0) (omega (arith, s .pre .1 .1 .0)) (c .before .before .before .before .flat .ensures)) _ _ _ (c .before .before .put-rounds .ensures))
 
 -- ---- the rounds
 
 abbrev rounds-Inv : put-rounds-lts.InvT-loop
 rounds-Inv table l node rounds headed from width words at pool out₀ used judged i₀ n₀ left₀ out i n left =
-    Going (writeRounds table l pool rounds headed from width (entries words at)) (writeRounds table l pool left headed from width (entries words i)) used out₀ n out
+    Going (roundsStep (writing pool) table l rounds headed from width (entries words at)) (roundsStep (writing pool) table l left headed from width (entries words i)) used out₀ n out
     × (length out ≡ length out₀)
 
 abbrev rounds-μ : put-rounds-lts.MeasureT-loop
@@ -157,28 +162,28 @@ module _ (t : ℕ) where
   rounds-calls = (begin-reads.Asked, begin-reads.Learnt, and 4 put-stretch-kinds.ps (falls 4 put-stretch-kinds.ps _<_ μ-stretch t) put-stretch.Pre, put-stretch.Post)
 
   rounds-returns : put-rounds-lts.Need-returns rounds-calls rounds-at put-rounds.Post rounds-Inv rounds-μ
-  rounds-returns c = gives-misfit (no-going-on (few-bytes _ (c .before .before .before .before .before .before .before .before .before .good .1 .1 .1 .1 .1 .1 .1 .1 .1 .1 .0 .1)) (c .before .before .before .before .loop .inv .0) (rounds-misfit _ _ _ _ _ _ _ (c .before .before .begin .ensures) (c .before .before .before .loop-test .taken) (c .enum-told .given .1)))
+  rounds-returns c = gives-misfit (no-going-on (few-bytes _ (c .before .before .before .before .before .before .before .before .before .good .1 .1 .1 .1 .1 .1 .1 .1 .1 .1 .0 .1)) (c .before .before .before .before .loop .inv .0) (round-misfit _ _ _ _ _ _ _ (c .before .before .begin .ensures) (c .before .before .before .loop-test .taken) (c .enum-told .given .1)))
 
   rounds-put-stretch-requires : put-rounds-lts.Need-put-stretch-requires rounds-calls rounds-at put-rounds.Post rounds-Inv rounds-μ
   rounds-put-stretch-requires c κs =
       let s = c .before .before .before .before .before .before .before .before .before .before .before in
-      (rounds-stretch _ (s .pre .0), (s .pre .1 .0, (s .pre .1 .1 .0, (s .pre .1 .1 .1 .0, sure-first (few-bytes _ (s .good .1 .1 .1 .1 .1 .1 .1 .1 .1 .1 .0 .1)) (c .before .before .before .before .before .before .loop .inv .0) (rounds-first _ _ _ _ _ _ _ (c .before .before .before .before .begin .ensures) (c .before .before .before .before .before .loop-test .taken) (c .before .before .begun .given .1)) (s .pre .1 .1 .1 .1)))))
+      (rounds-stretch _ (s .pre .0), (s .pre .1 .0, (s .pre .1 .1 .0, (s .pre .1 .1 .1 .0, sure-first (few-bytes _ (s .good .1 .1 .1 .1 .1 .1 .1 .1 .1 .1 .0 .1)) (c .before .before .before .before .before .before .loop .inv .0) (round-first _ _ _ _ _ _ _ (c .before .before .before .before .begin .ensures) (c .before .before .before .before .before .loop-test .taken) (c .before .before .begun .given .1)) (s .pre .1 .1 .1 .1)))))
 
   rounds-returns-2 : put-rounds-lts.Need-returns-2 rounds-calls rounds-at put-rounds.Post rounds-Inv rounds-μ
-  rounds-returns-2 c = first-misfit (few-bytes _ (c .before .before .before .before .before .before .before .before .before .before .before .before .before .before .before .before .good .1 .1 .1 .1 .1 .1 .1 .1 .1 .1 .0 .1)) (c .before .before .before .before .before .before .before .before .before .before .before .loop .inv .0) (rounds-first _ _ _ _ _ _ _ (c .before .before .before .before .before .before .before .before .before .begin .ensures) (c .before .before .before .before .before .before .before .before .before .before .loop-test .taken) (c .before .before .before .before .before .before .before .begun .given .1)) (c .before .before .before .before .put-stretch .ensures) (c .enum-told2 .given .1)
+  rounds-returns-2 c = first-misfit (few-bytes _ (c .before .before .before .before .before .before .before .before .before .before .before .before .before .before .before .before .good .1 .1 .1 .1 .1 .1 .1 .1 .1 .1 .0 .1)) (c .before .before .before .before .before .before .before .before .before .before .before .loop .inv .0) (round-first _ _ _ _ _ _ _ (c .before .before .before .before .before .before .before .before .before .begin .ensures) (c .before .before .before .before .before .before .before .before .before .before .loop-test .taken) (c .before .before .before .before .before .before .before .begun .given .1)) (c .before .before .before .before .put-stretch .ensures) (c .enum-told2 .given .1)
 
   rounds-loop-again : put-rounds-lts.Need-loop-again rounds-calls rounds-at put-rounds.Post rounds-Inv rounds-μ
   rounds-loop-again c =
-      (first-done (few-bytes _ (c .before .before .before .before .before .before .before .before .before .before .before .before .before .before .before .before .before .good .1 .1 .1 .1 .1 .1 .1 .1 .1 .1 .0 .1)) (c .before .before .before .before .before .before .before .before .before .before .before .before .loop .inv .0) (rounds-first _ _ _ _ _ _ _ (c .before .before .before .before .before .before .before .before .before .before .begin .ensures) (c .before .before .before .before .before .before .before .before .before .before .before .loop-test .taken) (c .before .before .before .before .before .before .before .before .begun .given .1)) (c .before .before .before .before .before .put-stretch .ensures) (c .before .got .given .1), search needs)
+      (first-done (few-bytes _ (c .before .before .before .before .before .before .before .before .before .before .before .before .before .before .before .before .before .good .1 .1 .1 .1 .1 .1 .1 .1 .1 .1 .0 .1)) (c .before .before .before .before .before .before .before .before .before .before .before .before .loop .inv .0) (round-first _ _ _ _ _ _ _ (c .before .before .before .before .before .before .before .before .before .before .begin .ensures) (c .before .before .before .before .before .before .before .before .before .before .before .loop-test .taken) (c .before .before .before .before .before .before .before .before .begun .given .1)) (c .before .before .before .before .before .put-stretch .ensures) (c .before .got .given .1), search needs)
 
   rounds-returns-3 : put-rounds-lts.Need-returns-3 rounds-calls rounds-at put-rounds.Post rounds-Inv rounds-μ
-  rounds-returns-3 c = going-end (c .before .loop .inv .0) (rounds-none _ _ _ _ _ _ _ _ (c .loop-test .left))
+  rounds-returns-3 c = going-end (c .before .loop .inv .0) (rounds-end _ _ _ _ _ _ _ _ (c .loop-test .left))
 
 -- ---- one round
 
 abbrev stretch-Inv : put-stretch-lts.InvT-loop
 stretch-Inv table l node from width words at pool out₀ used judged i₀ n₀ child₀ left₀ out i n child left =
-    Going (writeRow table l pool from width (entries words at)) (writeRow table l pool child left (entries words i)) used out₀ n out
+    Going (rowStep (writing pool) table l from width (entries words at)) (rowStep (writing pool) table l child left (entries words i)) used out₀ n out
     × Falls table child left node
     × (length out ≡ length out₀)
 
@@ -209,7 +214,7 @@ module _ (t : ℕ) where
   )
 
   stretch-returns-2 : put-stretch-lts.Need-returns-2 stretch-calls stretch-at put-stretch.Post stretch-Inv stretch-μ
-  stretch-returns-2 c = going-end (c .before .loop .inv .0) (stretch-none _ _ _ _ _ _ (c .loop-test .left))
+  stretch-returns-2 c = going-end (c .before .loop .inv .0) (row-end _ _ _ _ _ _ (c .loop-test .left))
 
 -- ---- all four
 
@@ -222,8 +227,8 @@ pub +inner-item+put-item+put-rounds+put-stretch-spec : {M : Type 1} → statemen
     (inner-flat-requires t) (inner-put-rounds-requires t) (λ c. search needs) (inner-returns-2 t) (λ c. search needs) (inner-returns-3 t))
     (λ t.
     put-item-lts.spec (item-calls t) (item-at t) put-item.Post
-    (item-returns t) (λ c κs. search needs) (item-inner-requires t) (λ c. search needs) (λ c. search needs) (λ c. search needs) (item-returns-2 t)
-    (item-leaf-requires t) (λ c. search needs) (item-returns-3 t) (λ c. search needs) (item-returns-4 t))
+    (λ c κs. search needs) (item-returns t) (λ c κs. search needs) (λ c κs. search needs) (item-inner-requires t) (λ c. search needs) (λ c. search needs) (λ c. search needs) (item-returns-2 t)
+    (λ c. search needs) (item-returns-3 t) (item-leaf-requires t) (λ c. search needs) (item-returns-4 t))
     (λ t.
     put-rounds-lts.spec (rounds-calls t) (rounds-at t) put-rounds.Post rounds-Inv rounds-μ
     (λ c. (going-begin _ _ _ (omega arith), refl)) (λ c κs. search needs) (λ c. search needs) (λ c. search needs) (λ c. search needs) (rounds-returns t)

@@ -6,23 +6,11 @@ use Rattle.write_list.proofs.Nodes.{node-has, node-lacks, node-follows,
 use Rattle.write_list.proofs.enter.Statement.{statement}
 use Rattle.write_list.proofs.enter.Tie as tie
 
-mul-i : tie.Need-mul-i
-mul-i c = search needs
+first-requires : tie.Need-first-requires
+first-requires c κs = search needs
 
-mul-first : tie.Need-mul-first
-mul-first c = search needs
-
-shared-slice-read-first : tie.Need-shared-slice-read-first
-shared-slice-read-first c = search needs
-
-add-second : tie.Need-add-second
-add-second c = search needs
-
-mul-second : tie.Need-mul-second
-mul-second c = search needs
-
-shared-slice-read-second : tie.Need-shared-slice-read-second
-shared-slice-read-second c = search needs
+second-requires : tie.Need-second-requires
+second-requires c κs = search needs
 
 child-count-requires : tie.Need-child-count-requires
 child-count-requires c κs = search needs
@@ -38,34 +26,26 @@ first-child-requires c κs = search needs
 
 follow-requires : tie.Need-follow-requires
 follow-requires c κs =
-    let s = c .before .before .before .before .before .before .before .before .before .before .before .before .before .before in
-    let has = node-has (s .pre .0) (s .pre .1 .0) (s .args .pool .now) (s .args .words .now) (s .args .at) (s .pre .1 .1 .0) (c .before .before .before .before .before .before .before .child-count .ensures) (s .pre .1 .1 .1 .1 .0) (s .pre .1 .1 .1 .1 .1) (c .before .before .before .before .before .before .fits-inner .ensures) (c .before .before .before .before .before .if1 .taken) in
-    (node-follows (s .pre .0) (s .pre .1 .0) (s .args .pool .now) (s .args .words .now) (s .args .at) (s .pre .1 .1 .0) (c .before .before .before .before .before .before .before .child-count .ensures) (s .pre .1 .1 .1 .1 .0) has, node-inside (s .pre .0) (s .pre .1 .0) (s .args .pool .now) (s .args .words .now) (s .args .at) (s .pre .1 .1 .0) (c .before .before .before .before .before .before .before .child-count .ensures) (s .pre .1 .1 .1 .1 .0) has (c .first-child .ensures) (few-bytes _ (s .good .0 .1)))
+    let has = node-has (c .before .before .before .before .before .before .before .before .before .before .before .before .before .before .pre .0) (c .before .before .before .before .before .before .before .before .before .before .before .before .before .before .pre .1 .0) _ _ _ (c .before .before .before .before .before .before .before .before .before .before .before .before .before .before .pre .1 .1 .0) (c .before .before .before .before .before .before .before .child-count .ensures) (c .before .before .before .before .before .before .before .before .before .before .before .before .before .before .pre .1 .1 .1 .1 .0) (c .before .before .before .before .before .before .before .before .before .first .ensures) (c .before .before .before .before .before .before .before .before .second .ensures) (c .before .before .before .before .before .before .before .before .before .before .before .before .before .before .pre .1 .1 .1 .1 .1) (c .before .before .before .before .before .before .fits-inner .ensures) (c .before .before .before .before .before .if1 .taken) in
+    (node-follows (c .before .before .before .before .before .before .before .before .before .before .before .before .before .before .pre .0) (c .before .before .before .before .before .before .before .before .before .before .before .before .before .before .pre .1 .0) _ _ _ (c .before .before .before .before .before .before .before .before .before .before .before .before .before .before .pre .1 .1 .0) (c .before .before .before .before .before .before .before .child-count .ensures) (c .before .before .before .before .before .before .before .before .before .before .before .before .before .before .pre .1 .1 .1 .1 .0) (c .before .before .before .before .before .before .before .before .before .first .ensures) (c .before .before .before .before .before .before .before .before .second .ensures) has, node-inside (c .before .before .before .before .before .before .before .before .before .before .before .before .before .before .pre .0) (c .before .before .before .before .before .before .before .before .before .before .before .before .before .before .pre .1 .0) _ _ _ (c .before .before .before .before .before .before .before .before .before .before .before .before .before .before .pre .1 .1 .0) (c .before .before .before .before .before .before .before .child-count .ensures) (c .before .before .before .before .before .before .before .before .before .before .before .before .before .before .pre .1 .1 .1 .1 .0) (c .before .before .before .before .before .before .before .before .before .first .ensures) (c .before .before .before .before .before .before .before .before .second .ensures) has (c .first-child .ensures) (few-bytes _ (c .before .before .before .before .before .before .before .before .before .before .before .before .before .before .good .0 .1)))
 
 same-length : tie.Need-same-length
 same-length c = search needs
 
 returns : tie.Need-returns
 returns c =
-    let s = c .before .before .before .before .before .before .before .before .before .before .before .before .before .before .before in
-    let has = node-has (s .pre .0) (s .pre .1 .0) (s .args .pool .now) (s .args .words .now) (s .args .at) (s .pre .1 .1 .0) (c .before .before .before .before .before .before .before .before .child-count .ensures) (s .pre .1 .1 .1 .1 .0) (s .pre .1 .1 .1 .1 .1) (c .before .before .before .before .before .before .before .fits-inner .ensures) (c .before .before .before .before .before .before .if1 .taken) in
-    record { holds = node-goes (s .pre .0) (s .pre .1 .0) (s .args .pool .now) (s .args .words .now) (s .args .at) (s .pre .1 .1 .0) (c .before .before .before .before .before .before .before .before .child-count .ensures) (s .pre .1 .1 .1 .1 .0) has (c .before .first-child .ensures) (c .before .before .before .before .put-inner .ensures .with _ _) (c .follow .ensures) }
+    let has = node-has (c .before .before .before .before .before .before .before .before .before .before .before .before .before .before .before .pre .0) (c .before .before .before .before .before .before .before .before .before .before .before .before .before .before .before .pre .1 .0) _ _ _ (c .before .before .before .before .before .before .before .before .before .before .before .before .before .before .before .pre .1 .1 .0) (c .before .before .before .before .before .before .before .before .child-count .ensures) (c .before .before .before .before .before .before .before .before .before .before .before .before .before .before .before .pre .1 .1 .1 .1 .0) (c .before .before .before .before .before .before .before .before .before .before .first .ensures) (c .before .before .before .before .before .before .before .before .before .second .ensures) (c .before .before .before .before .before .before .before .before .before .before .before .before .before .before .before .pre .1 .1 .1 .1 .1) (c .before .before .before .before .before .before .before .fits-inner .ensures) (c .before .before .before .before .before .before .if1 .taken) in
+    record { holds = node-goes (c .before .before .before .before .before .before .before .before .before .before .before .before .before .before .before .pre .0) (c .before .before .before .before .before .before .before .before .before .before .before .before .before .before .before .pre .1 .0) _ _ _ (c .before .before .before .before .before .before .before .before .before .before .before .before .before .before .before .pre .1 .1 .0) (c .before .before .before .before .before .before .before .before .child-count .ensures) (c .before .before .before .before .before .before .before .before .before .before .before .before .before .before .before .pre .1 .1 .1 .1 .0) (c .before .before .before .before .before .before .before .before .before .before .first .ensures) (c .before .before .before .before .before .before .before .before .before .second .ensures) has (c .before .first-child .ensures) (c .before .before .before .before .put-inner .ensures .with _ _) (c .follow .ensures) }
 
 returns-2 : tie.Need-returns-2
-returns-2 c =
-    let s = c .before .before .before .before .before .before .before .before .before in
-    record { holds = node-lacks (s .pre .0) (s .pre .1 .0) (s .args .pool .now) (s .args .words .now) (s .args .at) (s .pre .1 .1 .0) (c .before .before .child-count .ensures) (s .pre .1 .1 .1 .1 .0) (s .pre .1 .1 .1 .1 .1) (c .before .fits-inner .ensures) (c .if1 .left) }
+returns-2 c = record { holds = node-lacks (c .before .before .before .before .before .before .before .before .before .pre .0) (c .before .before .before .before .before .before .before .before .before .pre .1 .0) _ _ _ (c .before .before .before .before .before .before .before .before .before .pre .1 .1 .0) (c .before .before .child-count .ensures) (c .before .before .before .before .before .before .before .before .before .pre .1 .1 .1 .1 .0) (c .before .before .before .before .first .ensures) (c .before .before .before .second .ensures) (c .before .before .before .before .before .before .before .before .before .pre .1 .1 .1 .1 .1) (c .before .fits-inner .ensures) (c .if1 .left) }
 
 pub enter-spec : {M : Type 1} → statement M
 enter-spec =
     tie.close
     (tie.spec
-    mul-i
-    mul-first
-    shared-slice-read-first
-    add-second
-    mul-second
-    shared-slice-read-second
+    first-requires
+    second-requires
     child-count-requires
     fits-inner-requires
     put-inner-requires

@@ -1,58 +1,49 @@
 -- `write_list::leaf_item` meets its contract: a misfit, or the entry's own bytes, which nothing follows.
 -- Assumes nothing.
 use mathlib.Core.Path.{refl, sym, _∙_}
+use native.Mathlib.Omega.{arith}
 use borrow.Author.Needs.{needs}
+use Rattle.wire.specs.Answers.{roomOf}
 use Rattle.write_list.proofs.Going.{going-end, gives-misfit}
 use Rattle.write_list.proofs.Nodes.{some-fits, start-lacks, start-known, start-going, leaf-starts}
 use Rattle.write_list.proofs.leaf_item.Statement.{statement}
 use Rattle.write_list.proofs.leaf_item.Tie as tie
 
-mul-i : tie.Need-mul-i
-mul-i c = search needs
+first-requires : tie.Need-first-requires
+first-requires c κs = search needs
 
-mul-first : tie.Need-mul-first
-mul-first c = search needs
-
-shared-slice-read-first : tie.Need-shared-slice-read-first
-shared-slice-read-first c = search needs
-
-add-second : tie.Need-add-second
-add-second c = search needs
-
-mul-second : tie.Need-mul-second
-mul-second c = search needs
-
-shared-slice-read-second : tie.Need-shared-slice-read-second
-shared-slice-read-second c = search needs
+second-requires : tie.Need-second-requires
+second-requires c κs = search needs
 
 fits-leaf-requires : tie.Need-fits-leaf-requires
-fits-leaf-requires c κs = let s = c .before .before .before .before .before in (s .pre .0, start-known (leaf-starts _ _ _ _ (s .pre .1 .0)) (s .pre .1 .1))
+fits-leaf-requires c κs = (c .before .before .before .before .before .pre .0, start-known (leaf-starts _ _ _ _ (c .before .before .before .before .before .pre .1 .0) (c .before .first .ensures) (c .second .ensures)) (c .before .before .before .before .before .pre .1 .1))
 
 put-leaf-requires : tie.Need-put-leaf-requires
 put-leaf-requires c κs = (c .before .before .before .before .before .before .before .before .pre .0, some-fits _ 0 _ _ _ (sym (c .before .before .fits-leaf .ensures) ∙ c .before .if1 .taken))
 
 add-next : tie.Need-add-next
-add-next c = search needs
+unfolding roomOf
+add-next c = omega (arith, c .before .before .before .before .before .before .before .before .before .before .before .pre .1 .0)
 
 same-length : tie.Need-same-length
 same-length c = search needs
 
 returns : tie.Need-returns
-returns c = going-end (start-going (leaf-starts _ _ _ _ (c .before .before .before .before .before .before .before .before .before .before .before .pre .1 .0)) (sym (c .before .before .before .before .before .fits-leaf .ensures) ∙ c .before .before .before .before .if1 .taken) (λ bs q. c .before .before .put-leaf .ensures .puts 0 q)) refl
+returns c =
+    going-end
+    (start-going (leaf-starts _ _ _ _ (c .before .before .before .before .before .before .before .before .before .before .before .pre .1 .0) (c .before .before .before .before .before .before .before .first .ensures) (c .before .before .before .before .before .before .second .ensures)) (sym (c .before .before .before .before .before .fits-leaf .ensures) ∙ c .before .before .before .before .if1 .taken)
+    (λ bs q. c .before .before .put-leaf .ensures .puts 0 q))
+    refl
 
 returns-2 : tie.Need-returns-2
-returns-2 c = gives-misfit (start-lacks (leaf-starts _ _ _ _ (c .before .before .before .before .before .before .before .pre .1 .0)) (sym (c .before .fits-leaf .ensures) ∙ c .if1 .left))
+returns-2 c = gives-misfit (start-lacks (leaf-starts _ _ _ _ (c .before .before .before .before .before .before .before .pre .1 .0) (c .before .before .before .first .ensures) (c .before .before .second .ensures)) (sym (c .before .fits-leaf .ensures) ∙ c .if1 .left))
 
 pub leaf-item-spec : {M : Type 1} → statement M
 leaf-item-spec =
     tie.close
     (tie.spec
-    mul-i
-    mul-first
-    shared-slice-read-first
-    add-second
-    mul-second
-    shared-slice-read-second
+    first-requires
+    second-requires
     fits-leaf-requires
     put-leaf-requires
     add-next

@@ -4,7 +4,7 @@ use native.Mathlib.Omega.{arith}
 use borrow.Author.Needs.{needs}
 use Rattle.laws.proofs.Tables.{good-table}
 use Rattle.table.proofs.Stretches.{root-falls, flat-falls}
-use Rattle.write_list.proofs.Rounds.{flat-writes}
+use Rattle.write_list.proofs.Rounds.{flattens}
 use Rattle.write_list.proofs.Fronts.{front-whole}
 use Rattle.write_list.proofs.put_front.Statement.{statement}
 use Rattle.write_list.proofs.put_front.Tie as tie
@@ -36,7 +36,7 @@ same-length : tie.Need-same-length
 same-length c = search needs
 
 returns-2 : tie.Need-returns-2
-returns-2 c = let s = c .before .before .before .before .before .before .before .before .before .before .before .before .before in front-whole (s .pre) (c .before .before .before .before .before .before .before .before .before .root-at .ensures) (flat-writes (good-table _ _ (s .pre)) (omega arith) (c .before .before .before .before .before .before .before .before .flat .ensures)) (c .before .before .before .before .before .before .before .begin .ensures) (c .before .before .before .before .before .begun .given .1) (omega (arith, s .good .1 .1 .1 .0 .1)) (c .before .before .put-ints .ensures)
+returns-2 c = let s = c .before .before .before .before .before .before .before .before .before .before .before .before .before in front-whole (s .pre) (c .before .before .before .before .before .before .before .before .before .root-at .ensures) (flattens (good-table _ _ (s .pre)) (omega arith) (c .before .before .before .before .before .before .before .before .flat .ensures)) (c .before .before .before .before .before .before .before .begin .ensures) (c .before .before .before .before .before .begun .given .1) (omega (arith, s .good .1 .1 .1 .0 .1)) (c .before .before .put-ints .ensures)
 
 pub put-front-spec : {M : Type 1} → statement M
 put-front-spec =

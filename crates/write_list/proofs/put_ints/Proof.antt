@@ -5,6 +5,7 @@ use native.Mathlib.Omega.{arith}
 use lib.ListN.{length}
 use borrow.Author.Needs.{needs}
 use borrow.Author.Tests.{not-false}
+use Rattle.wire.specs.Answers.{roomOf}
 use Rattle.table.proofs.Stretches.{falls-first, falls-next}
 use Rattle.write_list.specs.Steps.{Leads}
 use Rattle.write_list.proofs.Going.{few-bytes, going-begin, first-done}
@@ -40,19 +41,14 @@ same-length c = search needs
 returns : tie.Need-returns Inv-loop μ-loop
 returns c = c .before .before .before .before .before .before .loop .inv .0
 
-mul-first : tie.Need-mul-first Inv-loop μ-loop
-mul-first c = omega (arith, (c .before .is-ready .ensures .is (not-false _ (c .if1 .left))) .more)
-
-mul-first-2 : tie.Need-mul-first-2 Inv-loop μ-loop
-mul-first-2 c = omega (arith, (c .before .is-ready .ensures .is (not-false _ (c .if1 .left))) .more)
-
-shared-slice-read-first : tie.Need-shared-slice-read-first Inv-loop μ-loop
-shared-slice-read-first c = omega (arith, (c .before .before .is-ready .ensures .is (not-false _ (c .before .if1 .left))) .more)
+first-requires : tie.Need-first-requires Inv-loop μ-loop
+first-requires c κs = (c .before .is-ready .ensures .is (not-false _ (c .if1 .left))) .more
 
 put-ready-requires : tie.Need-put-ready-requires Inv-loop μ-loop
 put-ready-requires c κs = let f = c .before .before .before .is-ready .ensures .is (not-false _ (c .before .before .if1 .left)) in (f .low, omega (arith, f .wide, c .before .before .before .before .places .ensures .inside))
 
 add-i : tie.Need-add-i Inv-loop μ-loop
+unfolding roomOf
 add-i c = omega (arith, (c .before .before .before .before .before .before .is-ready .ensures .is (not-false _ (c .before .before .before .before .before .if1 .left))) .more)
 
 add-field : tie.Need-add-field Inv-loop μ-loop
@@ -66,13 +62,13 @@ loop-less c = omega arith
 
 loop-again : tie.Need-loop-again Inv-loop μ-loop
 loop-again c =
-    let b = c .before .before .before .before .before .before .before .before .before .before .before in
+    let inv = c .before .before .before .before .before .before .before .before .before .before .before .loop .inv .0 in
     let more = c .before .before .before .before .before .before .before .before .before .before .loop-test .taken in
-    let low = falls-first (b .loop .inv .0 .falls) more in (
+    let low = falls-first (inv .falls) more in (
       record {
-        falls = falls-next (b .loop .inv .0 .falls) more;
-        going = λ pool. first-done (few-bytes _ (c .before .before .before .before .before .before .before .before .before .before .before .before .before .before .before .good .1 .1 .1 .1 .1 .1 .0 .1)) (b .loop .inv .0 .going pool) (stretch-first _ _ _ _ _ _ (c .before .before .before .before .before .before .before .before .before .u16-at .ensures .0) more)
-            (ready-gives (c .before .before .before .before .before .before .before .before .before .before .before .before .before .before .before .pre .0) (omega arith) (c .before .before .before .before .before .before .before .before .kind-at .ensures) (c .before .before .before .before .before .before .is-ready .ensures .is (not-false _ (c .before .before .before .before .before .if1 .left))) (c .before .before .put-ready .ensures) pool) refl;
+        falls = falls-next (inv .falls) more;
+        going = λ pool. first-done (few-bytes _ (c .before .before .before .before .before .before .before .before .before .before .before .before .before .before .before .good .1 .1 .1 .1 .1 .1 .0 .1)) (inv .going pool) (stretch-first _ _ _ _ _ _ (c .before .before .before .before .before .before .before .before .before .u16-at .ensures .0) more)
+            (ready-gives (c .before .before .before .before .before .before .before .before .before .before .before .before .before .before .before .pre .0) (omega arith) (c .before .before .before .before .before .before .before .before .kind-at .ensures) (c .before .before .before .before .before .before .is-ready .ensures .is (not-false _ (c .before .before .before .before .before .if1 .left))) (c .before .before .before .before .first .ensures) (c .before .before .put-ready .ensures) pool) refl;
       },
       search needs,
     )
@@ -96,9 +92,7 @@ put-ints-spec =
     is-ready-requires
     same-length
     returns
-    mul-first
-    mul-first-2
-    shared-slice-read-first
+    first-requires
     put-ready-requires
     add-i
     add-field

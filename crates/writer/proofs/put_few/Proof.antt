@@ -4,6 +4,7 @@ use mathlib.Core.Path.{refl, sym}
 use native.Mathlib.Omega.{arith}
 use lib.Seq.{length-take-le}
 use borrow.Author.Needs.{needs}
+use Rattle.wire.specs.Answers.{roomOf}
 use Rattle.writer.specs.Promise.{put, other}
 use Rattle.write_list.proofs.Going.{few-bytes}
 use Rattle.writer.proofs.Promised.{judged-short}
@@ -19,6 +20,9 @@ slice-aggregate-put-front c = search needs
 put-front-requires : tie.Need-put-front-requires
 put-front-requires c κs = search needs
 
+room-requires : tie.Need-room-requires
+room-requires c κs = search needs
+
 array-share-prefix-small : tie.Need-array-share-prefix-small
 array-share-prefix-small c = search needs
 
@@ -32,10 +36,11 @@ same-length : tie.Need-same-length
 same-length c = search needs
 
 returns-2 : tie.Need-returns-2
+unfolding roomOf
 returns-2 c =
-    let f = c .before .before .before .before .before in
-    let s = c .before .before .before .before .before .before .before .before .before .before .before .before .before .before .before .before .before .before in
-    put (λ pool. judged-short _ (f .before .before .before .before .before .before .before .put-front .ensures .all (f .before .before .before .before .if2 .taken) pool) refl (few-bytes _ (s .good .1 .1 .1 .0 .1)) (f .before .before .if3 .taken) (f .if5 .taken) (omega arith) (c .before .before .put-bytes .ensures))
+    put
+    (λ pool. judged-short _ (c .before .before .before .before .before .before .before .before .before .before .before .before .before .put-front .ensures .all (c .before .before .before .before .before .before .before .before .before .before .if2 .taken) pool) refl (few-bytes _ (c .before .before .before .before .before .before .before .before .before .before .before .before .before .before .before .before .before .before .before .good .1 .1 .1 .0 .1)) (omega arith) (c .before .before .before .before .before .if5 .taken) (omega arith)
+    (c .before .before .put-bytes .ensures))
 
 returns-3 : tie.Need-returns-3
 returns-3 c = other
@@ -56,6 +61,7 @@ put-few-spec =
     returns
     slice-aggregate-put-front
     put-front-requires
+    room-requires
     array-share-prefix-small
     slice-aggregate-put-bytes
     put-bytes-requires

@@ -22,6 +22,8 @@ use Rattle.listing.proofs.value.say_value.Reads as say-value-reads
 use Rattle.say.proofs.indent.Reads as indent-reads
 use Rattle.say.proofs.say.Reads as say-reads
 use Rattle.table.proofs.child_count.Reads as child-count-reads
+use Rattle.entry.proofs.first.Reads as first-reads
+use Rattle.entry.proofs.second.Reads as second-reads
 use Rattle.table.proofs.kind_at.Reads as kind-at-reads
 use Rattle.listing.proofs.entries.+show_item+show_round+show_rounds.{statement}
 use Rattle.listing.proofs.entries.+show_item+show_round+show_rounds.Tie.{close}
@@ -59,7 +61,7 @@ show-rounds-below t =
     and 3 show-rounds-kinds.ps (falls 3 show-rounds-kinds.ps _<_ μ-show-rounds t) show-rounds.Pre
 
 abbrev show-item-calls : ℕ → show-item-lts.Claims
-show-item-calls t = (kind-at-reads.Asked, kind-at-reads.Learnt, child-count-reads.Asked, child-count-reads.Learnt, say-kind-reads.Asked, say-kind-reads.Learnt, say-value-reads.Asked, say-value-reads.Learnt, say-reads.Asked, say-reads.Learnt, span-of-reads.Asked, span-of-reads.Learnt, show-rounds-below t, show-rounds.Post)
+show-item-calls t = (kind-at-reads.Asked, kind-at-reads.Learnt, child-count-reads.Asked, child-count-reads.Learnt, first-reads.Asked, first-reads.Learnt, second-reads.Asked, second-reads.Learnt, say-kind-reads.Asked, say-kind-reads.Learnt, say-value-reads.Asked, say-value-reads.Learnt, say-reads.Asked, say-reads.Learnt, span-of-reads.Asked, span-of-reads.Learnt, show-rounds-below t, show-rounds.Post)
 
 abbrev show-round-calls : ℕ → show-round-lts.Claims
 show-round-calls t = (kind-at-reads.Asked, kind-at-reads.Learnt, indent-reads.Asked, indent-reads.Learnt, say-position-reads.Asked, say-position-reads.Learnt, say-reads.Asked, say-reads.Learnt, child-reads.Asked, child-reads.Learnt, show-item-below t, show-item.Post)
@@ -73,26 +75,11 @@ show-item-kind-at-requires t c κs = search needs
 show-item-child-count-requires : (t : ℕ) → show-item-lts.Need-child-count-requires (show-item-calls t) (show-item-at t) show-item.Post
 show-item-child-count-requires t c κs = search needs
 
-show-item-mul-first : (t : ℕ) → show-item-lts.Need-mul-first (show-item-calls t) (show-item-at t) show-item.Post
-show-item-mul-first t c = search needs
+show-item-first-requires : (t : ℕ) → show-item-lts.Need-first-requires (show-item-calls t) (show-item-at t) show-item.Post
+show-item-first-requires t c κs = let p = c .before .before .before .before .before .pre in omega (arith, p .1 .1 .1 .0, p .1 .1 .1 .1)
 
-show-item-mul-first-2 : (t : ℕ) → show-item-lts.Need-mul-first-2 (show-item-calls t) (show-item-at t) show-item.Post
-show-item-mul-first-2 t c = search needs
-
-show-item-shared-slice-read-first : (t : ℕ) → show-item-lts.Need-shared-slice-read-first (show-item-calls t) (show-item-at t) show-item.Post
-show-item-shared-slice-read-first t c = search needs
-
-show-item-mul-second : (t : ℕ) → show-item-lts.Need-mul-second (show-item-calls t) (show-item-at t) show-item.Post
-show-item-mul-second t c = search needs
-
-show-item-add-second : (t : ℕ) → show-item-lts.Need-add-second (show-item-calls t) (show-item-at t) show-item.Post
-show-item-add-second t c = search needs
-
-show-item-mul-second-2 : (t : ℕ) → show-item-lts.Need-mul-second-2 (show-item-calls t) (show-item-at t) show-item.Post
-show-item-mul-second-2 t c = search needs
-
-show-item-shared-slice-read-second : (t : ℕ) → show-item-lts.Need-shared-slice-read-second (show-item-calls t) (show-item-at t) show-item.Post
-show-item-shared-slice-read-second t c = search needs
+show-item-second-requires : (t : ℕ) → show-item-lts.Need-second-requires (show-item-calls t) (show-item-at t) show-item.Post
+show-item-second-requires t c κs = let p = c .before .before .before .before .before .before .pre in omega (arith, p .1 .1 .1 .0, p .1 .1 .1 .1)
 
 show-item-say-kind-requires : (t : ℕ) → show-item-lts.Need-say-kind-requires (show-item-calls t) (show-item-at t) show-item.Post
 show-item-say-kind-requires t c κs = search needs
@@ -207,6 +194,10 @@ pub +show-item+show-round+show-rounds-spec : {M : Type 1} → statement M
       kind-at-reads.Learnt,
       child-count-reads.Asked,
       child-count-reads.Learnt,
+      first-reads.Asked,
+      first-reads.Learnt,
+      second-reads.Asked,
+      second-reads.Learnt,
       say-kind-reads.Asked,
       say-kind-reads.Learnt,
       say-value-reads.Asked,
@@ -222,13 +213,8 @@ pub +show-item+show-round+show-rounds-spec : {M : Type 1} → statement M
     show-item.Post
     (show-item-kind-at-requires t)
     (show-item-child-count-requires t)
-    (show-item-mul-first t)
-    (show-item-mul-first-2 t)
-    (show-item-shared-slice-read-first t)
-    (show-item-mul-second t)
-    (show-item-add-second t)
-    (show-item-mul-second-2 t)
-    (show-item-shared-slice-read-second t)
+    (show-item-first-requires t)
+    (show-item-second-requires t)
     (show-item-say-kind-requires t)
     (show-item-say-value-requires t)
     (show-item-slice-aggregate-say t)

@@ -56,7 +56,7 @@ abbrev show-node-calls : ℕ → show-node-lts.Claims
 show-node-calls t = (say-node-reads.Asked, say-node-reads.Learnt, child-count-reads.Asked, child-count-reads.Learnt, say-reads.Asked, say-reads.Learnt, is-new-reads.Asked, is-new-reads.Learnt, show-children-below t, show-children.Post)
 
 abbrev show-children-Inv-loop : show-children-lts.InvT-loop
-show-children-Inv-loop table l node width depth seen₀ number k₀ t10 seen k = length seen ≡ 256
+show-children-Inv-loop table l node width depth seen₀ number k₀ t10 seen k = length seen ≡ length seen₀
 
 abbrev show-children-μ-loop : show-children-lts.MeasureT-loop
 show-children-μ-loop table l node width depth seen₀ number k₀ t10 seen k = width - k

@@ -1,7 +1,7 @@
 -- `listing::tree::show` is safe: a table that passes the check is good.
 -- Assumes nothing.
 use mathlib.Core.Path.{sym, _∙_}
-use Rattle.laws.proofs.Tables.{good-table}
+use Rattle.laws.proofs.Tables.{good-table, within-limits}
 use native.Mathlib.Omega.{arith}
 use borrow.Author.Needs.{needs}
 use Rattle.listing.proofs.tree.show.Statement.{statement}
@@ -29,7 +29,11 @@ slice-aggregate-show-node : tie.Need-slice-aggregate-show-node
 slice-aggregate-show-node c = search needs
 
 show-node-requires : tie.Need-show-node-requires
-show-node-requires c κs = let good = good-table _ _ (sym (c .before .before .before .before .before .before .check .ensures) ∙ c .before .before .before .before .layout .given .1) in (good, (good .root-below, omega (arith, good .root-below, good .few-nodes), search needs))
+show-node-requires c κs =
+    let told = sym (c .before .before .before .before .before .before .check .ensures) ∙ c .before .before .before .before .layout .given .1 in
+    let good = good-table _ _ told in
+    let few = within-limits _ _ told in
+    (good, ((good .root-below, search needs), omega (arith, good .short-chains _ (good .root-below))))
 
 returns : tie.Need-returns
 returns c = search needs

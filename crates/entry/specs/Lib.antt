@@ -1,0 +1,2 @@
+-- What the contracts of an entry's words cite.
+pub mod Words

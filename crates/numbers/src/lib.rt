@@ -1,0 +1,54 @@
+// Document 01's numbers of answers, as the static library returns them and the programs say them.
+use wire::FeedAnswer;
+use wire::Refusal;
+use wire::Side;
+ghost use mathlib.Core.Path.{_≡_};
+ghost use Rattle.wire.specs.Answers.{refusalNumber, sideNumber, yesNumber, feedNumber};
+
+pub fn refusal(why: Refusal) -> u64
+    ensures { λ r. ⌜ r ≡ refusalNumber why ⌝ }
+{
+    match why {
+        Refusal::Trailer => 1,
+        Refusal::Record => 2,
+        Refusal::End => 3,
+        Refusal::BadVarint => 4,
+        Refusal::BadBool => 5,
+        Refusal::BadChar => 6,
+        Refusal::BadUtf8 => 7,
+        Refusal::BadOption => 8,
+        Refusal::Variant => 9,
+        Refusal::Room => 10,
+        Refusal::Values => 11,
+        Refusal::Full => 12,
+    }
+}
+
+// 0 for the old table, 1 for the new one.
+pub fn side(side: Side) -> u64
+    ensures { λ r. ⌜ r ≡ sideNumber side ⌝ }
+{
+    match side {
+        Side::Old => 0,
+        Side::New => 1,
+    }
+}
+
+// 1 for yes, 0 for no.
+pub fn yes(yes: bool) -> u64
+    ensures { λ r. ⌜ r ≡ yesNumber yes ⌝ }
+{
+    if yes { 1 } else { 0 }
+}
+
+pub fn feed(answer: FeedAnswer) -> u64
+    ensures { λ r. ⌜ r ≡ feedNumber answer ⌝ }
+{
+    match answer {
+        FeedAnswer::Consumed => 20,
+        FeedAnswer::OverFull => 21,
+        FeedAnswer::BadFrame => 22,
+        FeedAnswer::Frame => 23,
+        FeedAnswer::BadState => 24,
+    }
+}

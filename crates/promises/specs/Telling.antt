@@ -1,0 +1,31 @@
+-- Laws about telling entries apart by one shape; no promise.
+-- Assumes nothing.
+use mathlib.Core.Path.{_≡_}
+use mathlib.Core.List.{List, [], _∷_, _++_}
+use Rattle.wire.specs.Shape.{Shape}
+use Rattle.wire.specs.Values.{Entry, Tag, Told, kept, lacks, short, tell}
+use Rattle.wire.specs.Reading.{Spot, reached, read}
+use Rattle.promises.specs.OldNew.{entries}
+
+-- the entries that were told apart
+unfoldable pub over : Told → List Entry
+over (kept ts rest) = entries ts ++ rest
+over (lacks ts e rest) = entries ts ++ e ∷ rest
+over (short ts) = entries ts
+
+-- Telling entries apart leaves none out, adds none and keeps their order.
+abbrev pub TellsAll : Type 0
+TellsAll = (t : Shape) (es : List Entry) → over (tell t es) ≡ es
+
+-- What a shape's reading made it tells as its own, whatever follows.
+abbrev pub OwnTold : Type 0
+OwnTold = (t : Shape) (x y : Spot) (es rest : List Entry)
+    → read t x ≡ record { made = es; ends = reached y } → (ts : List Tag) × (entries ts ≡ es) × (tell t (es ++ rest) ≡ kept ts rest)
+
+-- Entries that are a shape's value are that value by themselves.
+abbrev pub KeptAgain : Type 0
+KeptAgain = (t : Shape) (es rest : List Entry) (ts : List Tag) → tell t es ≡ kept ts rest → tell t (entries ts) ≡ kept ts []
+
+-- Entries in front of a variant that a shape lacks are too few by themselves.
+abbrev pub LacksAgain : Type 0
+LacksAgain = (t : Shape) (es rest : List Entry) (ts : List Tag) (e : Entry) → tell t es ≡ lacks ts e rest → tell t (entries ts) ≡ short ts

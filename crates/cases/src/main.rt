@@ -1,5 +1,5 @@
 // Reads the messages of its list, document 01's reading cases and three tables that must not take long, and writes what
-// comes back. crates/records/make has the list.
+// comes back. crates/recorded/make has the list.
 use recorded::field::number_at;
 use recorded::field::part;
 use say::say;

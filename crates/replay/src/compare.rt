@@ -10,7 +10,7 @@ ghost use Rattle.wire.specs.Answers.{readSays, writeSays, askSays, takeSays};
 ghost use Rattle.replay.specs.Told.{Tells, made, which};
 
 // The room for the words of a store or a value list, for the bytes of an output and of an accumulator.
-const WORDS: usize = 512;
+const WORDS: usize = 256 * entry::WORDS;
 
 const OUT: usize = 1024;
 

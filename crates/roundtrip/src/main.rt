@@ -1,5 +1,5 @@
 // Writes a value of every kind, reads it back with bytes behind it, and writes what was read again; and writes lists that
-// are refused. crates/records/make has them.
+// are refused. crates/recorded/make has them.
 use recorded::field::part;
 use recorded::memory::put_words;
 use say::say;

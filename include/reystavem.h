@@ -18,16 +18,19 @@ extern "C" {
 /* Whether a table is good: 0, 1 or 2. *place: the first bad node, else 0. */
 uint64_t reystavem_check(const uint8_t *table, size_t table_len, uint64_t *place);
 
-/* Reads a message into a store of u64 words, two an entry. *place: bytes read, or the place of the
- * refusal. *count: entries made, which stand in front in the store; later words are as before. On 0
- * the rest of the message begins at *place. */
+/* Reads a message into a store of u64 words, three an entry: an item's value in two words, and the
+ * place of its first byte (for a struct or unit, the place reached). A store has room for a third of
+ * its words, rounded down. *place: bytes read, or the place of the refusal. *count: entries made,
+ * which stand in front in the store; later words are as before. On 0 the rest of the message begins
+ * at *place. */
 uint64_t reystavem_read(const uint8_t *table, size_t table_len,
                         const uint8_t *message, size_t message_len,
                         uint64_t *store, size_t store_words,
                         uint64_t *place, uint64_t *count);
 
-/* Writes a value list, whose texts and bytes stand in the pool. *place: bytes written, or the place
- * of the refusal. On a refusal the output is unchanged, on 0 only the bytes written changed. */
+/* Writes a value list, three words an entry, whose texts and bytes stand in the pool; an entry's third
+ * word isn't looked at. *place: bytes written, or the place of the refusal. On a refusal the output is
+ * unchanged, on 0 only the bytes written changed. */
 uint64_t reystavem_write(const uint8_t *table, size_t table_len,
                          const uint64_t *words, size_t words_len,
                          const uint8_t *pool, size_t pool_len,
@@ -48,9 +51,10 @@ uint64_t reystavem_feed(uint8_t *array, size_t array_len,
                         uint64_t *idx, uint64_t *len, uint64_t *rest_from);
 
 /* Takes one item of kind 0 to 13 or 20 to 31 at *place: moved behind the item on 0, kept on a refusal.
- * *first and *second: the item's entry, 0 on a refusal. */
+ * *first, *second and *at: the item's entry, its value in two words and the place where it stands; each
+ * 0 on a refusal. */
 uint64_t reystavem_take(uint64_t kind, const uint8_t *message, size_t message_len,
-                        uint64_t *place, uint64_t *first, uint64_t *second);
+                        uint64_t *place, uint64_t *first, uint64_t *second, uint64_t *at);
 
 #ifdef __cplusplus
 }

@@ -16,12 +16,13 @@ static size_t load(const char *path, uint8_t *room, size_t size)
 int main(void)
 {
     uint8_t table[4096], message[4096];
-    uint64_t store[2 * 64], place = 0, count = 0;
+    uint64_t store[3 * 64], place = 0, count = 0;
     size_t table_len = load("samples/count.table", table, sizeof table);
     size_t message_len = load("samples/count-end.message", message, sizeof message);
-    uint64_t answer = reystavem_read(table, table_len, message, message_len, store, 2 * 64, &place, &count);
+    uint64_t answer = reystavem_read(table, table_len, message, message_len, store, 3 * 64, &place, &count);
     printf("answer %" PRIu64 ", place %" PRIu64 ", entries %" PRIu64 "\n", answer, place, count);
     if (answer == 0 && count == 4)
-        printf("store %" PRIu64 ", product %" PRIu64 ", count %" PRId64 "\n", store[2], store[4], (int64_t)store[6]);
+        printf("store %" PRIu64 ", product %" PRIu64 ", count %" PRId64 " at byte %" PRIu64 "\n", store[3], store[6],
+               (int64_t)store[9], store[11]);
     return 0;
 }

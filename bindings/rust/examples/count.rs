@@ -1,4 +1,4 @@
-//! Reads a message by a table, both from files, and prints its entries: `count TABLE MESSAGE`.
+//! Reads a message by a table, both from files, and prints its entries, each with its own bytes: `count TABLE MESSAGE`.
 use std::{env, fs};
 
 fn main() {
@@ -8,11 +8,15 @@ fn main() {
     };
     let table = fs::read(table).expect("the table's file");
     let message = fs::read(message).expect("the message's file");
-    let mut store = [0u64; 128];
+    let mut store = [0u64; 64 * reystavem::WORDS];
     match reystavem::read(&table, &message, &mut store) {
         Ok(read) => {
-            for entry in store.chunks(2).take(read.count) {
-                println!("{} {}", entry[0] as i64, entry[1]);
+            let entries: Vec<_> = reystavem::entries(&store).take(read.count).collect();
+            // An item's own bytes end where the next item begins, the last one's at the rest.
+            let ends = entries.iter().skip(1).map(|next| next.place);
+            for (entry, end) in entries.iter().zip(ends.chain([message.len() - read.rest.len()])) {
+                let bytes = &message[entry.place..end];
+                println!("{} {} at {}: {bytes:02x?}", entry.first as i64, entry.second, entry.place);
             }
             println!("rest {:02x?}", read.rest);
         }

@@ -5,11 +5,12 @@
 //!
 //! ```
 //! # let table = reystavem::samples::TABLE_T;
-//! let mut store = [0u64; 8];
+//! let mut store = [0u64; 4 * reystavem::WORDS];
 //! let read = reystavem::read(table, &[0xac, 0x02, 0x05, 0x03, 0x07], &mut store).unwrap();
 //! assert_eq!(read.count, 4);
 //! assert_eq!(read.rest, [0x07]);
-//! assert_eq!(store[2..4], [300, 0]);
+//! let product = reystavem::entries(&store).nth(2).unwrap();
+//! assert_eq!((product.first, product.place), (5, 2));
 //! ```
 
 mod ffi {
@@ -63,6 +64,7 @@ mod ffi {
             place: *mut u64,
             first: *mut u64,
             second: *mut u64,
+            at: *mut u64,
         ) -> u64;
     }
 }
@@ -142,6 +144,26 @@ pub fn check(table: &[u8]) -> Result<(), Refused> {
     }
 }
 
+/// The words of an entry in a store or a value list.
+pub const WORDS: usize = 3;
+
+/// An item's two words, and the place of its first byte (for a struct or unit, the place reached).
+#[derive(Clone, Copy, Debug, PartialEq, Eq)]
+pub struct Entry {
+    pub first: u64,
+    pub second: u64,
+    pub place: usize,
+}
+
+/// The entries that words hold. The writer doesn't look at their places.
+pub fn entries(words: &[u64]) -> impl Iterator<Item = Entry> + '_ {
+    words.chunks_exact(WORDS).map(|entry| Entry {
+        first: entry[0],
+        second: entry[1],
+        place: entry[2] as usize,
+    })
+}
+
 /// A message that was read: how many entries stand in front in the store, and the unread bytes.
 #[derive(Clone, Copy, Debug, PartialEq, Eq)]
 pub struct Read<'m> {
@@ -156,7 +178,8 @@ pub struct ReadRefused {
     pub count: usize,
 }
 
-/// Reads a message into a store, two words an entry. Words behind the entries stay as they were.
+/// Reads a message into a store, three words an entry (`entries`). It has room for a third of its words, rounded
+/// down. Words behind the entries stay as they were.
 #[inline]
 pub fn read<'m>(table: &[u8], message: &'m [u8], store: &mut [u64]) -> Result<Read<'m>, ReadRefused> {
     let (mut place, mut count) = (0, 0);
@@ -186,8 +209,8 @@ pub fn read<'m>(table: &[u8], message: &'m [u8], store: &mut [u64]) -> Result<Re
     }
 }
 
-/// Writes a value list whose texts and bytes stand in the pool: how many bytes were written.
-/// On a refusal the output is unchanged.
+/// Writes a value list, three words an entry, whose texts and bytes stand in the pool: how many bytes were written.
+/// The third words aren't looked at. On a refusal the output is unchanged.
 #[inline]
 pub fn write(table: &[u8], words: &[u64], pool: &[u8], out: &mut [u8]) -> Result<usize, Refused> {
     let mut place = 0;
@@ -308,22 +331,26 @@ impl Accumulator {
     }
 }
 
-/// An item's two words.
-#[derive(Clone, Copy, Debug, PartialEq, Eq)]
-pub struct Entry {
-    pub first: u64,
-    pub second: u64,
-}
-
 /// Takes one item of kind 0 to 13 or 20 to 31 at a place of the message: its entry, and the place behind it.
 pub fn take(kind: u64, message: &[u8], place: usize) -> Result<(Entry, usize), Refused> {
-    let (mut behind, mut first, mut second) = (place as u64, 0, 0);
+    let (mut behind, mut first, mut second, mut at) = (place as u64, 0, 0, 0);
     // SAFETY: the slice is lent with its own length; the numbers are ours.
     let number = unsafe {
-        ffi::reystavem_take(kind, message.as_ptr(), message.len(), &mut behind, &mut first, &mut second)
+        ffi::reystavem_take(
+            kind,
+            message.as_ptr(),
+            message.len(),
+            &mut behind,
+            &mut first,
+            &mut second,
+            &mut at,
+        )
     };
     match number {
-        0 => Ok((Entry { first, second }, behind as usize)),
+        0 => {
+            let place = at as usize;
+            Ok((Entry { first, second, place }, behind as usize))
+        }
         2 => Err(refused(number, 0)),
         _ => Err(refused(number, behind)),
     }

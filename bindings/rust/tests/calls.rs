@@ -25,36 +25,67 @@ fn a_good_table_and_two_bad_ones() {
 
 #[test]
 fn a_message_its_rest_and_the_words_behind() {
-    let mut store = [7; 9];
+    let mut store = [7; 14];
     let got = read(TABLE_T, &[0xac, 0x02, 0x05, 0x03, 0x07], &mut store).unwrap();
     assert_eq!(got, Read { count: 4, rest: &[0x07] });
-    assert_eq!(store, [0, 0, 300, 0, 5, 0, MINUS_TWO, 0, 7]);
+    assert_eq!(store, [0, 0, 0, 300, 0, 0, 5, 0, 2, MINUS_TWO, 0, 3, 7, 7]);
+    let count = Entry { first: MINUS_TWO, second: 0, place: 3 };
+    assert_eq!(entries(&store).nth(3), Some(count));
+    assert_eq!(entries(&store).count(), 4);
+}
+
+#[test]
+fn a_third_of_the_words_are_entries() {
+    for words in [0, 1, 2] {
+        let mut store = [7; 2];
+        let got = read(TABLE_T, &[0xac, 0x02, 0x05, 0x03], &mut store[..words]);
+        let refused = Refused { why: Why::Room, place: 0 };
+        assert_eq!(got, Err(ReadRefused { refused, count: 0 }));
+        assert_eq!(store, [7; 2]);
+    }
+    let mut store = [7; 8];
+    let got = read(TABLE_T, &[0xac, 0x02, 0x05, 0x03], &mut store);
+    let refused = Refused { why: Why::Room, place: 2 };
+    assert_eq!(got, Err(ReadRefused { refused, count: 2 }));
+    assert_eq!(store, [0, 0, 0, 300, 0, 0, 7, 7]);
 }
 
 #[test]
 fn a_message_that_ends_inside() {
-    let mut store = [7; 9];
+    let mut store = [7; 14];
     let got = read(TABLE_T, &[0xac, 0x02, 0x05], &mut store);
     let refused = Refused { why: Why::End, place: 3 };
     assert_eq!(got, Err(ReadRefused { refused, count: 3 }));
-    assert_eq!(store, [0, 0, 300, 0, 5, 0, 7, 7, 7]);
+    assert_eq!(store, [0, 0, 0, 300, 0, 0, 5, 0, 2, 7, 7, 7, 7, 7]);
 }
 
 #[test]
 fn the_shortest_form_is_written() {
     let mut out = [7; 4];
-    assert_eq!(write(&leaf(2), &[u64::MAX - 32767, 0], &[], &mut out), Ok(3));
+    let words = [u64::MAX - 32767, 0, 0];
+    assert_eq!(write(&leaf(2), &words, &[], &mut out), Ok(3));
     assert_eq!(out, [0xff, 0xff, 0x03, 7]);
     let full = Refused { why: Why::Full, place: 0 };
-    assert_eq!(write(&leaf(2), &[u64::MAX - 32767, 0], &[], &mut out[..2]), Err(full));
+    assert_eq!(write(&leaf(2), &words, &[], &mut out[..2]), Err(full));
+}
+
+#[test]
+fn any_place_is_written_and_words_left_over_are_not() {
+    let mut out = [7; 2];
+    assert_eq!(write(&leaf(5), &[9, 0, u64::MAX], &[], &mut out), Ok(1));
+    assert_eq!(out, [9, 7]);
+    for words in [1, 2, 4, 5] {
+        let left_over = Refused { why: Why::Values, place: words / WORDS };
+        assert_eq!(write(&leaf(5), &[9, 0, 0, 0, 0][..words], &[], &mut out), Err(left_over));
+    }
 }
 
 #[test]
 fn what_was_written_is_read_back() {
-    let words = [0, 0, 300, 0, 5, 0, MINUS_TWO, 0];
+    let words = [0, 0, 0, 300, 0, 0, 5, 0, 2, MINUS_TWO, 0, 3];
     let mut out = [0; 16];
     let len = write(TABLE_T, &words, &[], &mut out).unwrap();
-    let mut store = [0; 8];
+    let mut store = [0; 12];
     assert_eq!(read(TABLE_T, &out[..len], &mut store).unwrap().rest, []);
     assert_eq!(store, words);
 }
@@ -90,8 +121,8 @@ fn frames_in_chunks() {
 #[test]
 fn single_items() {
     let mut items = Deserializer::new(&[0x05, 0x02, 0x61, 0x62, 0x80]);
-    assert_eq!(items.take(5), Ok(Entry { first: 5, second: 0 }));
-    assert_eq!(items.take(12), Ok(Entry { first: 2, second: 2 }));
+    assert_eq!(items.take(5), Ok(Entry { first: 5, second: 0, place: 0 }));
+    assert_eq!(items.take(12), Ok(Entry { first: 2, second: 2, place: 1 }));
     assert_eq!(items.take(14), Err(Refused { why: Why::Record, place: 0 }));
     assert_eq!(items.take(6), Err(Refused { why: Why::End, place: 4 }));
     assert_eq!(items.rest(), [0x80]);

@@ -37,12 +37,12 @@ fn say_question(old: &[u8], new: &[u8]) {
 
 // What the old table reads: the entries behind the struct's own.
 fn say_reading(old: &[u8], message: &[u8]) {
-    let mut store = [0u64; 8];
+    let mut store = [0u64; 4 * entry::WORDS];
     match reader::read(old, message, &mut store) {
         ReadAnswer::Done { place: _, count: _ } => {
-            say_counted(b"The old table would read store ", store[2]);
-            say_counted(b", product ", store[4]);
-            say_signed(b", count ", store[6]);
+            say_counted(b"The old table would read store ", store[entry::WORDS]);
+            say_counted(b", product ", store[2 * entry::WORDS]);
+            say_signed(b", count ", store[3 * entry::WORDS]);
             say(b", and no error.\n");
         }
         ReadAnswer::Refused {

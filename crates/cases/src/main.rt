@@ -1,5 +1,5 @@
 // Reads the messages of its list, document 01's reading cases and three tables that must not take long, and writes what
-// comes back. crates/records/make has the list.
+// comes back. crates/recorded/make has the list.
 use recorded::field::number_at;
 use recorded::field::part;
 use say::say;
@@ -11,6 +11,9 @@ use wire::ReadAnswer;
 
 // So many messages are in the list.
 const MESSAGES: usize = 13;
+
+// The largest store, of 256 entries.
+const STORE: usize = 256 * entry::WORDS;
 
 // How many entries were made, and the first four.
 fn say_made(store: &[u64], count: usize) {
@@ -43,7 +46,7 @@ fn read_into(table: &[u8], message: &[u8], store: &mut [u64]) {
 
 // A record is a name, a table, a message, and how many words the store has.
 fn read_record(record: &[u8]) {
-    let mut store = [7u64; 512];
+    let mut store = [7u64; STORE];
     let size = number_at(record, 3) as usize;
     if size <= store.len() {
         say(part(record, 0));

@@ -47,6 +47,7 @@ pub fn take_at(kind: u64, message: &[u8], place: usize) -> TakeAnswer
             TakeAnswer::Done {
                 first,
                 second,
+                at: place,
                 place: behind,
             }
         }

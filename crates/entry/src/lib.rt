@@ -1,13 +1,12 @@
 // An entry's words: how many there are, and where they stand in a value list or a store.
 ghost use mathlib.Core.Path.{_≡_};
-ghost use mathlib.Core.List.{[], _∷_};
 ghost use Prim.Native.Nat.{_*_, _/_, _%_, _<_};
 ghost use lib.ListN.{take};
 ghost use lib.Dec.{eqb};
 ghost use Rattle.wire.specs.Answers.{wordsPer, roomOf};
-ghost use Rattle.entry.specs.Words.{firstAt, secondAt, putAt};
+ghost use Rattle.entry.specs.Words.{firstAt, secondAt, placeAt, withEntry};
 
-pub const WORDS: usize = 2;
+pub const WORDS: usize = 3;
 
 // How many entries so many words have room for.
 pub fn room(words: usize) -> usize
@@ -40,14 +39,24 @@ pub fn second(words: &[u64], at: usize) -> u64
     words[i]
 }
 
-// Stores the entry of a number, where the store has words for it.
-pub fn put(store: &mut [u64], at: usize, first: u64, second: u64)
-    ensures { λ _. ⌜ now (store .exit) ≡ putAt (now (store .entry)) at (first ∷ second ∷ []) ⌝ }
+// The place of the item's first byte.
+pub fn place(words: &[u64], at: usize) -> u64
+    requires { ⌜ at < roomOf (now words) ⌝ }
+    ensures { λ r. ⌜ r ≡ placeAt (now (words .entry)) at ⌝ }
+{
+    let i = WORDS * at + 2;
+    words[i]
+}
+
+// Stores an item's entry at a number, where the store has words for it.
+pub fn put(store: &mut [u64], at: usize, first: u64, second: u64, place: usize)
+    ensures { λ _. ⌜ now (store .exit) ≡ withEntry first second place at (now (store .entry)) ⌝ }
 {
     if at < room(store.len()) {
         let to = WORDS * at;
         store[to] = first;
         store[to + 1] = second;
+        store[to + 2] = place as u64;
     }
 }
 

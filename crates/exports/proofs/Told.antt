@@ -21,7 +21,7 @@ use Rattle.wire.specs.declared.TakeAnswer.the-variants.{Done as Taken, Refused 
 use Rattle.wire.specs.Reading.{Run, Outcome, reached, refused}
 use Rattle.wire.specs.Answers.{sideNumber, yesNumber, refusalNumber, numbered, done, checkSays, readSays, writeSays, takeSays, askSays, readAnswer, placeAfter, Form}
 use Rattle.laws.specs.Answered.{Reads, Writes}
-use Rattle.exports.specs.Calls.{Told, Read, Wrote, whichOf, yesOf, Asked, firstOf, secondOf, Took}
+use Rattle.exports.specs.Calls.{Told, Read, Wrote, whichOf, yesOf, Asked, firstOf, secondOf, atOf, Took}
 
 -- ---- the check
 
@@ -83,10 +83,10 @@ ask-refused e g h k = rw (← e, g) (record { told = record { number = h; place 
 
 -- ---- one item
 
-pub take-done : {t r : TakeAnswer} {at a b p : ℕ} → r ≡ t → r ≡ Taken a b p → Took t at 0 p a b
-unfolding takeSays done placeAfter firstOf secondOf
-take-done e g = rw (← e, g) (record { number = refl; place = refl; first = refl; second = refl })
+pub take-done : {t r : TakeAnswer} {before a b at p : ℕ} → r ≡ t → r ≡ Taken a b at p → Took t before 0 p a b at
+unfolding takeSays done placeAfter firstOf secondOf atOf
+take-done e g = rw (← e, g) (record { number = refl; place = refl; first = refl; second = refl; at = refl })
 
-pub take-refused : {t r : TakeAnswer} {at p n : ℕ} {w : Refusal} → r ≡ t → r ≡ NotTaken w p → n ≡ refusalNumber w → Took t at n at 0 0
-unfolding takeSays numbered placeAfter firstOf secondOf
-take-refused e g h = rw (← e, g) (record { number = h; place = refl; first = refl; second = refl })
+pub take-refused : {t r : TakeAnswer} {before p n : ℕ} {w : Refusal} → r ≡ t → r ≡ NotTaken w p → n ≡ refusalNumber w → Took t before n before 0 0 0
+unfolding takeSays numbered placeAfter firstOf secondOf atOf
+take-refused e g h = rw (← e, g) (record { number = h; place = refl; first = refl; second = refl; at = refl })

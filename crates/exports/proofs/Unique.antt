@@ -55,4 +55,5 @@ one-took t before x y h k = λ i. (
   alike (h .place) (k .place) i,
   alike (h .first) (k .first) i,
   alike (h .second) (k .second) i,
+  alike (h .at) (k .at) i,
 )

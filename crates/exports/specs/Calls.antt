@@ -50,17 +50,22 @@ pub record Fed (f : Lent) (chunk : List ℕ) (r i n from : ℕ) (array′ messag
   pub array : array′ ≡ f .fed .array
   pub message : message′ ≡ f .message
 
--- an item's words, 0 where it is refused
+-- an item's words and the place where it stands, 0 where it is refused
 unfoldable pub firstOf : TakeAnswer → ℕ
-firstOf (Taken a b p) = a
+firstOf (Taken a b at p) = a
 firstOf (NotTaken e p) = 0
 
 unfoldable pub secondOf : TakeAnswer → ℕ
-secondOf (Taken a b p) = b
+secondOf (Taken a b at p) = b
 secondOf (NotTaken e p) = 0
 
-pub record Took (t : TakeAnswer) (before r p a b : ℕ) : Type 0 where
+unfoldable pub atOf : TakeAnswer → ℕ
+atOf (Taken a b at p) = at
+atOf (NotTaken e p) = 0
+
+pub record Took (t : TakeAnswer) (before r p a b q : ℕ) : Type 0 where
   pub number : r ≡ takeSays t .number
   pub place : p ≡ placeAfter before t
   pub first : a ≡ firstOf t
   pub second : b ≡ secondOf t
+  pub at : q ≡ atOf t

@@ -26,4 +26,4 @@ abbrev pub OneFedCall : Type 0
 OneFedCall = (f : Lent) (chunk : List ℕ) → Unique (λ (x : ℕ × ℕ × ℕ × ℕ × List ℕ × List ℕ). Fed f chunk (x .0) (x .1) (x .2) (x .3) (x .4) (x .5))
 
 abbrev pub OneTook : Type 0
-OneTook = (t : TakeAnswer) (before : ℕ) → Unique (λ (x : ℕ × ℕ × ℕ × ℕ). Took t before (x .0) (x .1) (x .2) (x .3))
+OneTook = (t : TakeAnswer) (before : ℕ) → Unique (λ (x : ℕ × ℕ × ℕ × ℕ × ℕ). Took t before (x .0) (x .1) (x .2) (x .3) (x .4))

@@ -139,24 +139,28 @@ pub extern "C" fn reystavem_take(
     place: &mut u64,
     first: &mut u64,
     second: &mut u64,
+    at: &mut u64,
 ) -> u64
-    ensures { λ r. ⌜ Took (takes kind (now (message .entry)) (now (place .entry))) (now (place .entry)) r (now (place .exit)) (now (first .exit)) (now (second .exit)) ⌝ }
+    ensures { λ r. ⌜ Took (takes kind (now (message .entry)) (now (place .entry))) (now (place .entry)) r (now (place .exit)) (now (first .exit)) (now (second .exit)) (now (at .exit)) ⌝ }
 {
     let got = deserializer::take_at(kind, message, *place as usize);
     match got {
         TakeAnswer::Done {
             first: a,
             second: b,
+            at: here,
             place: behind,
         } => {
             *place = behind as u64;
             *first = a;
             *second = b;
+            *at = here as u64;
             0
         }
         TakeAnswer::Refused { why, place: _ } => {
             *first = 0;
             *second = 0;
+            *at = 0;
             numbers::refusal(why)
         }
     }

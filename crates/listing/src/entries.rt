@@ -4,6 +4,7 @@ use crate::names::say_position;
 use crate::parts::child;
 use crate::tree::say_bad;
 use crate::value::say_value;
+use say::front;
 use say::indent;
 use say::say;
 use say::say_bytes;
@@ -17,6 +18,13 @@ ghost use Rattle.wire.specs.Shape.{depth as depthOf};
 ghost use Rattle.wire.specs.Table.{nodeAt, recordOf};
 ghost use Rattle.wire.specs.Answers.{roomOf};
 ghost use Rattle.laws.specs.Tables.{nodeCount, nodeShape, GoodTable};
+
+// What a reading left to show: so many entries, whether their bytes too, and where the last one's end.
+pub struct Made {
+    pub count: usize,
+    pub bytes: bool,
+    pub end: usize,
+}
 
 // What follows an item: rounds over the children from one position up to another.
 struct Span {
@@ -57,6 +65,30 @@ fn span_of(number: u8, first: u64, width: usize) -> Span
     }
 }
 
+// The bytes from one place up to another; none where there are no such.
+fn between<'a>(message: &'a [u8], from: usize, to: usize) -> &'a [u8] {
+    if to <= from {
+        return &message[0..0];
+    }
+    front(tail::from(message, from), to - from)
+}
+
+// The place of the item of the entry `at`, and its own bytes: those up to the next item's place, or to where the reading ended.
+fn say_own(words: &[u64], made: Made, message: &[u8], at: usize)
+    requires { ⌜ (at < made .count) × (made .count ≤ roomOf (now words)) ⌝ }
+{
+    if made.bytes {
+        let from = entry::place(words, at);
+        let mut to = made.end;
+        let next = at + 1;
+        if next < made.count {
+            to = entry::place(words, next) as usize;
+        }
+        say_with(b", at byte #:", from);
+        say_bytes(between(message, from as usize, to));
+    }
+}
+
 // The item of the entry `at` and those below it, and the entry that comes next.
 fn show_item(
     table: &[u8],
@@ -64,14 +96,14 @@ fn show_item(
     node: usize,
     depth: usize,
     words: &[u64],
-    count: usize,
+    made: Made,
     message: &[u8],
     at: usize,
 ) -> usize
     requires { ⌜ GoodTable (now table) l ⌝ }
     requires { ⌜ (node < l .nodes) × (depth + depthOf (nodeShape (now table) l node) ≤ 256) ⌝ }
-    requires { ⌜ (at < count) × (count ≤ roomOf (now words)) ⌝ }
-    ensures { λ r. ⌜ r ≤ count ⌝ }
+    requires { ⌜ (at < made .count) × (made .count ≤ roomOf (now words)) ⌝ }
+    ensures { λ r. ⌜ r ≤ made .count ⌝ }
 {
     let number = table::kind_at(table, l, node);
     let width = table::child_count(table, l, node);
@@ -79,19 +111,10 @@ fn show_item(
     let second = entry::second(words, at);
     say_kind(number);
     say_value(number, width, first, second, message);
+    say_own(words, made, message, at);
     say(b"\n");
     let way = span_of(number, first, width);
-    show_rounds(
-        table,
-        l,
-        node,
-        way,
-        depth + 1,
-        words,
-        count,
-        message,
-        at + 1,
-    )
+    show_rounds(table, l, node, way, depth + 1, words, made, message, at + 1)
 }
 
 fn show_rounds(
@@ -101,20 +124,20 @@ fn show_rounds(
     way: Span,
     depth: usize,
     words: &[u64],
-    count: usize,
+    made: Made,
     message: &[u8],
     at: usize,
 ) -> usize
     requires { ⌜ GoodTable (now table) l ⌝ }
     requires { ⌜ (node < l .nodes) × (depth + depthOf (nodeShape (now table) l node) ≤ 257) ⌝ }
     requires { ⌜ way .to ≤ nodeCount (nodeAt (now table) (recordOf l node)) ⌝ }
-    requires { ⌜ (at ≤ count) × (count ≤ roomOf (now words)) ⌝ }
-    ensures { λ r. ⌜ r ≤ count ⌝ }
+    requires { ⌜ (at ≤ made .count) × (made .count ≤ roomOf (now words)) ⌝ }
+    ensures { λ r. ⌜ r ≤ made .count ⌝ }
 {
     let mut next = at;
     let mut round = 0;
     while round < way.rounds {
-        if count <= next {
+        if made.count <= next {
             return next;
         }
         next = show_round(
@@ -126,7 +149,7 @@ fn show_rounds(
             round,
             depth,
             words,
-            count,
+            made,
             message,
             next,
         );
@@ -144,42 +167,42 @@ fn show_round(
     round: u64,
     depth: usize,
     words: &[u64],
-    count: usize,
+    made: Made,
     message: &[u8],
     at: usize,
 ) -> usize
     requires { ⌜ GoodTable (now table) l ⌝ }
     requires { ⌜ (node < l .nodes) × (depth + depthOf (nodeShape (now table) l node) ≤ 257) ⌝ }
     requires { ⌜ to ≤ nodeCount (nodeAt (now table) (recordOf l node)) ⌝ }
-    requires { ⌜ (at ≤ count) × (count ≤ roomOf (now words)) ⌝ }
-    ensures { λ r. ⌜ r ≤ count ⌝ }
+    requires { ⌜ (at ≤ made .count) × (made .count ≤ roomOf (now words)) ⌝ }
+    ensures { λ r. ⌜ r ≤ made .count ⌝ }
 {
     let number = table::kind_at(table, l, node);
     let mut next = at;
     let mut k = from;
     while k < to {
-        if count <= next {
+        if made.count <= next {
             return next;
         }
         indent(depth);
         say_position(number, round, k as u64);
         say(b": ");
         let c = child(table, l, node, k);
-        next = show_item(table, l, c, depth, words, count, message, next);
+        next = show_item(table, l, c, depth, words, made, message, next);
         k += 1;
     }
     next
 }
 
 // The entries that were made, if there are so many words.
-fn show_entries(table: &[u8], l: Layout, words: &[u64], count: usize, message: &[u8])
+fn show_entries(table: &[u8], l: Layout, words: &[u64], made: Made, message: &[u8])
     requires { ⌜ GoodTable (now table) l ⌝ }
 {
-    if 0 < count {
-        if count <= entry::room(words.len()) {
+    if 0 < made.count {
+        if made.count <= entry::room(words.len()) {
             let root = l.root;
             say(b"root: ");
-            show_item(table, l, root, 0, words, count, message, 0);
+            show_item(table, l, root, 0, words, made, message, 0);
         }
     }
 }
@@ -202,23 +225,39 @@ fn show_end(answer: ReadAnswer, rest: &[u8]) {
     }
 }
 
-fn made(answer: ReadAnswer) -> usize {
+fn made_by(answer: ReadAnswer, bytes: bool) -> Made {
     match answer {
-        ReadAnswer::Done { place: _, count } => count,
+        ReadAnswer::Done { place, count } => Made {
+            count,
+            bytes,
+            end: place,
+        },
         ReadAnswer::Refused {
             why: _,
-            place: _,
+            place,
             count,
-        } => count,
+        } => Made {
+            count,
+            bytes,
+            end: place,
+        },
     }
 }
 
-// What reading a message by a table answered: the entries in the store, and the rest or why it is refused.
-pub fn show(table: &[u8], message: &[u8], store: &[u64], answer: ReadAnswer, rest: &[u8]) {
+// What reading a message by a table answered: the entries in the store, with their places and bytes where they are asked for,
+// and the rest or why it is refused.
+pub fn show(
+    table: &[u8],
+    message: &[u8],
+    store: &[u64],
+    answer: ReadAnswer,
+    rest: &[u8],
+    bytes: bool,
+) {
     match table::check(table) {
         Checked::Bad { why, place } => say_bad(why, place),
         Checked::Good { layout } => {
-            show_entries(table, layout, store, made(answer), message);
+            show_entries(table, layout, store, made_by(answer, bytes), message);
             show_end(answer, rest);
         }
     }

@@ -10,6 +10,7 @@ pub mod Trips
 pub mod Written
 pub mod WrittenReads
 pub mod RoundTrips
+pub mod Places
 pub mod SameBytes
 pub mod Shortest
 pub mod Rest

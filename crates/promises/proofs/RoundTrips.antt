@@ -48,6 +48,9 @@ back {table} {s} {rest} {store} {n} r long {a} h =
       many = r .many;
       unread = rw (answered, long) (drop-append-seam s rest);
       same = rw (h .stored) (r .stored);
+      tags = r .tags;
+      items = r .items;
+      stand = rw (h .stored, long, take-append-seam s rest) (r .stand);
     }
   where
     answered : a ≡ Read n (length (reads table (s ++ rest) store .made))

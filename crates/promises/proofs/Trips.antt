@@ -19,6 +19,7 @@ use Rattle.laws.specs.Steps.{Every}
 use Rattle.laws.proofs.Walks.{every}
 use Rattle.laws.proofs.Parts as parts
 use Rattle.laws.proofs.Heads.{tag, ItemBack, written-known, head-back}
+use Rattle.promises.specs.Places.{places, Stand, stop, stands}
 use Rattle.promises.proofs.Spelling.{Spelling, spelt, spellOn, spellItem, spelling, item-spells}
 
 -- ---- entries
@@ -53,6 +54,12 @@ item-tells : (k : Kind) (n : ℕ) (next : ℕ → List Entry → Told) (e : Entr
 unfolding tellItem toldAfter given
 item-tells k n next e h a = record { told = λ rest. rw (h, a .told rest) }
 
+-- items that stand behind others
+stand-then : {pool : List ℕ} {p : ℕ} {ts us : List Tag} {ps qs s t : List ℕ} → Stand pool p ts ps s → Stand pool (p + length s) us qs t
+    → Stand pool p (ts ++ us) (ps ++ qs) (s ++ t)
+stand-then {p} stop b = rw (add-zero p) at b
+stand-then {p} {t} (stands n {s} {r} is a) b = rw (append-assoc s r t) (stands n is (stand-then a (rw (length-append s r, ← (add-assoc p (length s) (length r))) at b)))
+
 -- ---- what is to be shown of the steps of the four walks
 
 -- what f reads of s, which was written of so many entries told apart as ts, where s and then rest stand at the place p of a message
@@ -63,6 +70,7 @@ pub record Again (pool : List ℕ) (f : Spot → Run) (u : List Entry → Told) 
   pub tells : Tells u made tags
   pub same : lists.map (valueOf pool) ts ≡ lists.map (valueOf message) tags
   pub many : length made ≡ count
+  pub stand : Stand pool p ts (places made) s
 
 -- s was written of the entries es in front of what is left
 pub record Back (pool : List ℕ) (f : Spot → Run) (u : List Entry → Told) (v : List Value → Spelling) (es : List Entry) (s : List ℕ) (left : List Entry) : Type 0 where
@@ -85,21 +93,21 @@ module _ (pool : List ℕ) where
   -- ---- nothing
 
   nothing-trip : Trip pool writeNothing readNothing tellNothing (spelt [])
-  unfolding writeNothing readNothing
+  unfolding writeNothing readNothing places
   nothing-trip =
       record {
         back = λ x. record { used = []; tags = []; split = refl; tells = nothing-tells; spells = λ vs. refl; again = λ h p rest message at. again p rest message };
       }
     where
       again : (p : ℕ) (rest message : List ℕ) → Again pool readNothing tellNothing 0 [] [] p rest message
-      again p rest message = record { made = []; tags = []; reads = rw add-zero; tells = nothing-tells; same = refl; many = refl }
+      again p rest message = record { made = []; tags = []; reads = rw add-zero; tells = nothing-tells; same = refl; many = refl; stand = stop }
 
   -- ---- one after the other
 
   then-again : {f f′ : Spot → Run} {u u′ : List Entry → Told} {c c′ p : ℕ} {ts us : List Tag} {s t rest message : List ℕ}
       → Again pool f u c ts s p (t ++ rest) message → Again pool f′ u′ c′ us t (p + length s) rest message
       → Again pool (readThen f f′) (tellThen u u′) (c + c′) (ts ++ us) (s ++ t) p rest message
-  unfolding readThen readOn runAfter
+  unfolding readThen readOn runAfter places
   then-again {p} {ts} {us} {s} {t} {rest} {message} a b =
       record {
         made = a .made ++ b .made;
@@ -108,6 +116,7 @@ module _ (pool : List ℕ) where
         tells = then-tells (a .tells) (b .tells);
         same = rw (map-append (valueOf pool) ts us, map-append (valueOf message) (a .tags) (b .tags), a .same, b .same);
         many = length-append (a .made) (b .made) ∙ ap₂ _+_ (a .many) (b .many);
+        stand = rw (map-append (λ e. e .place) (a .made) (b .made)) (stand-then (a .stand) (b .stand));
       }
 
   module _ (f f′ : Spot → Run) (u u′ : List Entry → Told) (v v′ : List Value → Spelling) where
@@ -154,10 +163,10 @@ module _ (pool : List ℕ) where
     v = spellItem k n (λ a. S (following k a))
 
     item-again : {a b c q p : ℕ} {us : List Tag} {s t rest message : List ℕ} (i : ItemBack k n pool a b s p (t ++ rest) message)
-        → isKnown (following k a) n ≡ true → Again pool (F (following k a)) (T (following k a)) c us t (p + length s) rest message
+        → headBytes k n pool a b ≡ some s → isKnown (following k a) n ≡ true → Again pool (F (following k a)) (T (following k a)) c us t (p + length s) rest message
         → Again pool f u (suc c) (tag k a b q ∷ us) (s ++ t) p rest message
-    unfolding readItem enter runAfter past
-    item-again {q} {p} {us} {s} {t} {rest} {message} i knows b =
+    unfolding readItem enter runAfter past places
+    item-again {q} {p} {us} {s} {t} {rest} {message} i is knows b =
         record {
           made = record { first = i .first; second = i .second; place = p } ∷ b .made;
           tags = tag k (i .first) (i .second) p ∷ b .tags;
@@ -166,6 +175,7 @@ module _ (pool : List ℕ) where
           tells = item-tells k n _ _ (rw (← (i .ways)) knows) (rw (← (i .ways)) (b .tells));
           same = ap₂ _∷_ (i .same q p) (b .same);
           many = ap suc (b .many);
+          stand = stands n is (b .stand);
         }
 
     item-back : (e : Entry) (es : List Entry) {s : List ℕ} → headBytes k n pool (e .first) (e .second) ≡ some s
@@ -183,7 +193,7 @@ module _ (pool : List ℕ) where
           spells = λ vs. rw (spells .ways, b .spells vs, spells .bytes);
           again = λ h p rest message at.
               let at′ : drop p message ≡ s ++ (t ++ rest) = at ∙ append-assoc s t rest in
-              item-again {q = e .place} (head-back n pool (e .first) (e .second) (h .0) (h .1) p (t ++ rest) message at′ k is)
+              item-again {q = e .place} (head-back n pool (e .first) (e .second) (h .0) (h .1) p (t ++ rest) message at′ k is) is
               (written-known k n pool (e .first) (e .second) is)
               (b .again (h .2) (p + length s) rest message (parts.behind message s (t ++ rest) p at′));
         }

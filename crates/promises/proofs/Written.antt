@@ -15,7 +15,7 @@ use Rattle.wire.specs.declared.Checked.the-variants.{Good, Bad}
 use Rattle.wire.specs.Shape.{Shape}
 use Rattle.wire.specs.Walk.{walk}
 use Rattle.wire.specs.Table.{check, shapeOf}
-use Rattle.wire.specs.Values.{Entry, Tag, tell, valueOf, whole, valued, values}
+use Rattle.wire.specs.Values.{Entry, Tag, kept, tell, valueOf, whole, valued, values}
 use Rattle.wire.specs.Reading.{read}
 use Rattle.wire.specs.Writing.{Wrote, wrote, misfit, write}
 use Rattle.wire.specs.Answers.{wordsPer, entriesOf, Form, form, noForm, formOf, formed, writeBy, writes}
@@ -69,7 +69,8 @@ pub entries-words : (ws : List ℕ) → AreWords ws → AreEntries (entriesOf ws
 unfolding entriesOf
 entries-words [] h = tt
 entries-words (a ∷ []) h = tt
-entries-words (a ∷ b ∷ s) h = (h 0, h 1, entries-words s (λ i. h (suc (suc i))))
+entries-words (a ∷ b ∷ []) h = tt
+entries-words (a ∷ b ∷ p ∷ s) h = (h 0, h 1, entries-words s (λ i. h (suc (suc (suc i)))))
 
 pub values-told : (t : Shape) (pool : List ℕ) {es : List Entry} {ts : List Tag} → Tells (tell t) es ts → values t pool es ≡ whole (lists.map (valueOf pool) ts)
 unfolding values valued
@@ -78,6 +79,7 @@ values-told t pool {es} h = rw (rw append-nil at (h .told []))
 -- what becomes of entries that are all written to s
 pub record Whole (t : Shape) (pool : List ℕ) (es : List Entry) (s : List ℕ) : Type 0 where
   pub tags : List Tag
+  pub items : tell t es ≡ kept tags []
   pub are : values t pool es ≡ whole (lists.map (valueOf pool) tags)
   pub spells : walk spelling t (lists.map (valueOf pool) tags) ≡ spelt s []
   pub again : AreEntries es → (rest : List ℕ) → Again pool (read t) (tell t) (length es) tags s 0 rest (s ++ rest)
@@ -92,6 +94,7 @@ all-written t pool es s i is = go (subst (GoodBack pool (read t) (tell t) (walk 
         rw all-used
         (record {
           tags = b .tags;
+          items = rw append-nil at (b .tells .told []);
           are = values-told t pool (b .tells);
           spells = rw append-nil at (b .spells []);
           again = λ h rest. b .again h 0 rest (s ++ rest) refl;

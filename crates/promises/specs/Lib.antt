@@ -1,5 +1,6 @@
--- What the demands promise of the public answers: of a new table beside an old one, of what is written and read back, of the rest, and of a skim.
+-- What the demands promise of the public answers: of a new table beside an old one, of the entries' places, of what is written and read back, of the rest, and of a skim.
 pub mod OldNew
+pub mod Places
 pub mod RoundTrip
 pub mod Rest
 pub mod Skim

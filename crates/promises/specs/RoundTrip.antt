@@ -2,7 +2,7 @@
 -- Assumes nothing.
 use mathlib.Core.Logic.{_↔_}
 use mathlib.Core.Path.{_≡_}
-use mathlib.Core.List.{List, _++_}
+use mathlib.Core.List.{List, [], _++_}
 use Prim.Native.Nat.{ℕ, _*_, _≤_}
 use lib.ListN.{length, take}
 use Rattle.wire.specs.declared.Layout.{Layout}
@@ -13,13 +13,15 @@ use Rattle.wire.specs.declared.ReadAnswer.the-variants.{Done as Read}
 use Rattle.wire.specs.declared.WriteAnswer.the-variants.{Done as Written}
 use Rattle.wire.specs.Shape.{Width}
 use Rattle.wire.specs.Table.{check, shapeOf}
-use Rattle.wire.specs.Values.{SameValues}
+use Rattle.wire.specs.Values.{Tag, kept, tell, SameValues}
 use Rattle.wire.specs.Numbers.{varint, shortest}
 use Rattle.wire.specs.Answers.{wordsPer, entriesOf, reads, restOf, form, writes}
 use Rattle.laws.specs.Range.{AreBytes, AreWords}
 use Rattle.laws.specs.Answered.{Reads, Writes}
+use Rattle.promises.specs.Places.{places, Stand}
 
 -- The answer of a reading that ended behind the first n bytes, and the store that it left: as many entries, the same values, and the rest.
+-- The third words are the items' places in the bytes written.
 pub record ReadBack (table ws pool message rest : List ℕ) (n : ℕ) (a : ReadAnswer) (left : List ℕ) : Type 0 where
   pub layout : Layout
   pub is-good : check table ≡ Good layout
@@ -28,6 +30,9 @@ pub record ReadBack (table ws pool message rest : List ℕ) (n : ℕ) (a : ReadA
   pub many : wordsPer * count ≡ length ws
   pub unread : restOf message a ≡ rest
   pub same : SameValues (shapeOf table layout) pool (entriesOf ws) message (entriesOf (take (length ws) left))
+  pub tags : List Tag
+  pub items : tell (shapeOf table layout) (entriesOf ws) ≡ kept tags []
+  pub stand : Stand pool 0 tags (places (entriesOf (take (length ws) left))) (take n message)
 
 -- What was written is read back to the same values, whatever follows it: `write` answered n and left `out`;
 -- `read` is given these n bytes with any rest behind them, and a store with room.

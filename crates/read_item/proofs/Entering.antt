@@ -2,7 +2,7 @@
 -- Assumes nothing.
 use mathlib.Core.Path.{_≡_, refl, sym, ap, ap₂, _∙_}
 use mathlib.Core.Bool.{true, false}
-use mathlib.Core.List.{List, [], _∷_}
+use mathlib.Core.List.{List}
 use Prim.Native.Nat.{ℕ, _+_, _-_, _*_, _≤_, _<_}
 use native.Mathlib.Omega.{arith}
 use lib.ListN.{length}
@@ -14,7 +14,6 @@ use Rattle.wire.specs.declared.Layout.{Layout}
 use Rattle.wire.specs.Walk.{each, following, isKnown, times, along, walks}
 use Rattle.wire.specs.Table.{kindOf, Node, nodeAt, recordOf}
 use Rattle.wire.specs.Reading.{Head, Spot, reached, refused, past, enter, readItem, reading}
-use Rattle.wire.specs.Answers.{wordsOf}
 use Rattle.laws.specs.Bounds.{Fits, takes}
 use Rattle.laws.specs.Heads.{Sound}
 use Rattle.laws.specs.KindRanges.{IsInner}
@@ -26,10 +25,10 @@ use Rattle.laws.proofs.Numbering.{kind-below}
 use Rattle.table.specs.declared.Stretch.{Stretch}
 use Rattle.table.specs.Parts.{Falls, followed, nodeStep, roundsStep}
 use Rattle.table.proofs.Stretches.{node-falls, falls-followed, along-followed}
-use Rattle.entry.specs.Words.{putAt}
+use Rattle.entry.specs.Words.{withEntry}
 use Rattle.read_item.specs.declared.Entered.the-variants.{On, Refused as Refusing}
 use Rattle.read_item.specs.Lay.{Left, lay}
-use Rattle.read_item.specs.Steps.{spot, ownOf, afterOf, withEntry, Enters, goes, stops}
+use Rattle.read_item.specs.Steps.{spot, ownOf, afterOf, Enters, goes, stops}
 use Rattle.read_item.proofs.Laying.{left, laid-none, lay-nothing, lay-entry, lay-refused}
 
 -- ---- what the code finds
@@ -48,11 +47,11 @@ module _ {r : Node} {k n : ℕ} (f : Found r k n) (h : Head) (bs : List ℕ) (p 
     pub enters-same : {e : Refusal} → own ≡ Refused e → Enters l i r p m s (ownOf h r (spot bs p)) (Refusing e) s
     enters-same q = rw (own-is ∙ q) stops
 
-    pub enters-on : {a b u : ℕ} (from : ℕ) {to : Stretch} {t : List ℕ} → own ≡ Took a b u → from ≡ nodeFirst l i r → to ≡ followed (following (kindOf k) a) from n → t ≡ putAt s m (a ∷ b ∷ [])
+    pub enters-on : {a b u : ℕ} (from : ℕ) {to : Stretch} {t : List ℕ} → own ≡ Took a b u → from ≡ nodeFirst l i r → to ≡ followed (following (kindOf k) a) from n → t ≡ withEntry a b p m s
         → Enters l i r p m s (ownOf h r (spot bs p)) (On to u) t
     enters-on {a} {b} {u} from {to} q first follows put =
         let after : to ≡ afterOf l i r a = unfold afterOf in (follows ∙ rw (first, f .kind, f .count)) in
-        rw (own-is ∙ q, after, put) (unfold withEntry wordsOf in goes)
+        rw (own-is ∙ q, after, put) goes
 
 module _ {s : List ℕ} {l : Layout} {i : ℕ} (g : GoodTable s l) (below : i < l .nodes) where
   pub number-small : (k : ℕ) → k ≡ nodeAt s (recordOf l i) .number → k < 32

@@ -2,7 +2,7 @@
 -- Assumes nothing.
 use mathlib.Core.Path.{_≡_, refl, sym, ap, _∙_}
 use mathlib.Core.Bool.{true}
-use mathlib.Core.List.{List, [], _∷_}
+use mathlib.Core.List.{List}
 use Prim.Native.Nat.{ℕ, _+_, _<_, _≤_, _^_}
 use native.Mathlib.Omega.{arith}
 use lib.ListN.{length}
@@ -18,16 +18,15 @@ use Rattle.wire.specs.Shape.{w32, w64}
 use Rattle.wire.specs.Numbers.{varint}
 use Rattle.wire.specs.Table.{kinds, kindOf}
 use Rattle.wire.specs.Reading.{flag, known, head}
-use Rattle.wire.specs.Answers.{wordsOf}
 use Rattle.laws.specs.Bounds.{Fits, takes}
 use Rattle.laws.specs.KindRanges.{IsInner, isLeaf}
 use Rattle.laws.proofs.Splits.{by-lt, of-pick}
 use Rattle.laws.proofs.Bounds.{head-fits}
 use Rattle.laws.proofs.EachKind.{end, _&_, in-kinds, outer-kinds}
-use Rattle.entry.specs.Words.{putAt}
+use Rattle.entry.specs.Words.{withEntry}
 use Rattle.leaf.specs.Leaves.{takeAt}
 use Rattle.leaf.proofs.Leaves.{low-leaf, high-leaf, is-leaf}
-use Rattle.read_item.specs.Steps.{withEntry, Puts, entry, same}
+use Rattle.read_item.specs.Steps.{Puts, entry, same}
 
 -- ---- a variant's number
 
@@ -50,8 +49,8 @@ module _ {p m : ℕ} {s : List ℕ} {i : Item} where
   pub puts-same : {e : Refusal} → i ≡ Refused e → Puts p m s i (NotRead e p m) s
   puts-same q = rw q same
 
-  pub puts-entry : {a b n : ℕ} {t : List ℕ} → i ≡ Took a b n → t ≡ putAt s m (a ∷ b ∷ []) → Puts p m s i (Done (p + n) (m + 1)) t
-  puts-entry q put = rw (q, put) (unfold withEntry wordsOf in entry)
+  pub puts-entry : {a b n : ℕ} {t : List ℕ} → i ≡ Took a b n → t ≡ withEntry a b p m s → Puts p m s i (Done (p + n) (m + 1)) t
+  puts-entry q put = rw (q, put) entry
 
 -- ---- by number
 

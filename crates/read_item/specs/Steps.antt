@@ -12,12 +12,11 @@ use Rattle.wire.specs.declared.ReadAnswer.the-variants.{Done, Refused as NotRea
 use Rattle.wire.specs.Walk.{following}
 use Rattle.wire.specs.Table.{Node, nodeAt, recordOf}
 use Rattle.wire.specs.Reading.{Head, Spot}
-use Rattle.wire.specs.Answers.{wordsOf}
 use Rattle.laws.specs.KindRanges.{IsInner}
 use Rattle.laws.specs.Tables.{nodeKind, nodeFirst, nodeCount}
 use Rattle.table.specs.declared.Stretch.{Stretch}
 use Rattle.table.specs.Parts.{followed}
-use Rattle.entry.specs.Words.{putAt}
+use Rattle.entry.specs.Words.{withEntry}
 use Rattle.read_item.specs.declared.Entered.{Entered}
 use Rattle.read_item.specs.declared.Entered.the-variants.{On, Refused}
 
@@ -36,10 +35,6 @@ ownOf h r x = h (nodeKind r) (nodeCount r) (x .place) (x .bytes)
 -- the stretch that follows an item of the node i with the first word a
 unfoldable pub afterOf : Layout → ℕ → Node → (a : ℕ) → Stretch
 afterOf l i r a = followed (following (nodeKind r) a) (nodeFirst l i r) (nodeCount r)
-
--- a store with the words of an item's entry at the number m
-unfoldable pub withEntry : (a b p : ℕ) → (m : ℕ) → List ℕ → List ℕ
-withEntry a b p m s = putAt s m (wordsOf (record { first = a; second = b; place = p }))
 
 -- What a leaf's own item at the place p leaves behind m entries: its entry, or its refusal and nothing else.
 pub data Puts (p m : ℕ) (s : List ℕ) : Item → ReadAnswer → List ℕ → Type 0 where

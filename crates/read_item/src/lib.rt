@@ -115,7 +115,7 @@ pub fn read_leaf(
             second,
             used,
         } => {
-            entry::put(store, made, first, second);
+            entry::put(store, made, first, second, place);
             let behind = place + used;
             let count = made + 1;
             ReadAnswer::Done {
@@ -151,7 +151,7 @@ pub fn enter(
             second,
             used,
         } => {
-            entry::put(store, made, first, second);
+            entry::put(store, made, first, second, place);
             let from = table::first_child(table, l, node);
             let to = table::follow(number, first, from, width);
             Entered::On { to, used }

@@ -10,9 +10,9 @@ use Rattle.wire.specs.declared.Refusal.the-variants.{Room}
 use Rattle.wire.specs.declared.ReadAnswer.the-variants.{Refused}
 use Rattle.wire.specs.Values.{Entry}
 use Rattle.wire.specs.Reading.{Head, Spot, Outcome, reached, refused, Run, runAfter, readOn, readThen, past, enter, readItem, reading}
-use Rattle.wire.specs.Answers.{wordsOf}
 use Rattle.laws.specs.Heads.{Sound}
 use Rattle.table.specs.Parts.{under}
+use Rattle.entry.specs.Words.{withEntry}
 use Rattle.read_item.specs.Lay.{Left, lay}
 use Rattle.read_item.specs.Steps.{spot}
 use Rattle.read_item.proofs.Laying.{lay-entry, lay-full}
@@ -39,14 +39,14 @@ module _ {h : Head} (sound : Sound h) (n : ℕ) (f g : Spot → Run) where
       go es (refused e p) = unfold readOn runAfter in refl
 
   module _ (room : ℕ) (w : Left) (bs : List ℕ) (at : ℕ) where
-    pub begun-full : {b : Bool} {s st : List ℕ} {m : ℕ} {r : Begun} → Begins room b s m r st → w ≡ lay room (readThen (under (reading h) b n f) g (spot bs at)) m s → r ≡ Full → Gives w (Refused Room at m) st
+    pub begun-full : {b : Bool} {s st : List ℕ} {m : ℕ} {r : Begun} → Begins room at b s m r st → w ≡ lay room (readThen (under (reading h) b n f) g (spot bs at)) m s → r ≡ Full → Gives w (Refused Room at m) st
     begun-full bare q e = let z : _≡_ {A = ℕ} 0 1 = cc in absurd (omega arith)
     begun-full (put l) q e = let z : _≡_ {A = ℕ} 0 1 = cc in absurd (omega arith)
     begun-full (full {s} {m} l) q e = gives-refused (q ∙ rw (then-headed (spot bs at)) (lay-full room m s (structAt at) (readThen f g (spot bs at)) l))
 
-    pub begun-at : {b : Bool} {s st : List ℕ} {m k : ℕ} {r : Begun} → Begins room b s m r st → w ≡ lay room (readThen (under (reading h) b n f) g (spot bs at)) m s → r ≡ At k
+    pub begun-at : {b : Bool} {s st : List ℕ} {m k : ℕ} {r : Begun} → Begins room at b s m r st → w ≡ lay room (readThen (under (reading h) b n f) g (spot bs at)) m s → r ≡ At k
         → w ≡ lay room (readThen f g (spot bs at)) k st
-    unfolding under wordsOf
+    unfolding under withEntry
     begun-at {k} (bare {s} {m}) q e = let c : m ≡ k = cc in rw (← c) q
     begun-at {k} (put {s} {m} l) q e =
         let c : m + 1 ≡ k = cc in

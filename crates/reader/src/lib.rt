@@ -25,12 +25,12 @@ enum Begun {
     Full,
 }
 
-fn begin(headed: bool, room: usize, store: &mut [u64], made: usize) -> Begun
-    ensures { λ r. ⌜ Begins room headed (now (store .entry)) made r (now (store .exit)) ⌝ }
+fn begin(headed: bool, place: usize, room: usize, store: &mut [u64], made: usize) -> Begun
+    ensures { λ r. ⌜ Begins room place headed (now (store .entry)) made r (now (store .exit)) ⌝ }
 {
     if headed {
         if made < room {
-            entry::put(store, made, 0, 0);
+            entry::put(store, made, 0, 0, place);
             let ready = made + 1;
             return Begun::At { made: ready };
         }
@@ -162,7 +162,7 @@ fn read_rounds(
     let mut sofar = made;
     let mut left = rounds;
     while 0 < left {
-        let begun = begin(headed, room, store, sofar);
+        let begun = begin(headed, at, room, store, sofar);
         let Begun::At { made: ready } = begun else {
             return ReadAnswer::Refused {
                 why: Refusal::Room,

@@ -10,7 +10,7 @@ ghost use Rattle.wire.specs.Answers.{readSays, writeSays, askSays, takeSays};
 ghost use Rattle.replay.specs.Told.{Tells, made, which};
 
 // The room for the words of a store or a value list, for the bytes of an output and of an accumulator.
-const WORDS: usize = 512;
+const WORDS: usize = 256 * entry::WORDS;
 
 const OUT: usize = 1024;
 
@@ -226,6 +226,7 @@ fn take_told(answer: TakeAnswer, behind: usize) -> Told
         TakeAnswer::Done {
             first: _,
             second: _,
+            at: _,
             place,
         } => Told {
             number: 0,
@@ -242,21 +243,24 @@ fn take_told(answer: TakeAnswer, behind: usize) -> Told
 
 // Whether the answer has the entry that the record has, or none where it has none.
 fn is_entry(record: &[u8], answer: TakeAnswer) -> bool {
-    let entry = field::part(record, 6);
+    let then = field::part(record, 6);
     match answer {
         TakeAnswer::Done {
             first,
             second,
+            at,
             place: _,
         } => {
-            if entry.len() != 16 {
+            if then.len() != 8 * entry::WORDS {
                 return false;
             }
-            let mut then = [0u64; 2];
-            memory::put_words(&mut then, entry);
-            memory::same_words(&[first, second], &then)
+            let mut made = [0u64; entry::WORDS];
+            entry::put(&mut made, 0, first, second, at);
+            let mut words = [0u64; entry::WORDS];
+            memory::put_words(&mut words, then);
+            memory::same_words(&made, &words)
         }
-        TakeAnswer::Refused { why: _, place: _ } => entry.len() == 0,
+        TakeAnswer::Refused { why: _, place: _ } => then.len() == 0,
     }
 }
 

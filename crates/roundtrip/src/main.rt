@@ -1,5 +1,5 @@
 // Writes a value of every kind, reads it back with bytes behind it, and writes what was read again; and writes lists that
-// are refused. crates/records/make has them.
+// are refused. crates/recorded/make has them.
 use recorded::field::part;
 use recorded::memory::put_words;
 use say::say;
@@ -10,10 +10,12 @@ use say::say_with;
 use wire::ReadAnswer;
 use wire::WriteAnswer;
 
-// So many value lists are to be written, of which the longest has so many words.
+// So many value lists are to be written, of which the longest has so many words; a store has room for some more.
 const LISTS: usize = 15;
 
-const LONGEST: usize = 86;
+const LONGEST: usize = 43 * entry::WORDS;
+
+const STORE: usize = 45 * entry::WORDS;
 
 // The room for a message of every kind, with four bytes behind it.
 const ROOM: usize = 135;
@@ -40,7 +42,7 @@ fn write_again(table: &[u8], words: &[u64], message: &[u8]) {
 }
 
 fn read_back(table: &[u8], message: &[u8]) {
-    let mut store = [7u64; 90];
+    let mut store = [7u64; STORE];
     let answer = reader::read(table, message, &mut store);
     match answer {
         ReadAnswer::Refused {

@@ -30,10 +30,11 @@ pub fn say_bytes(bytes: &[u8]) {
     }
 }
 
-// An entry's two words.
-fn say_entry(first: u64, second: u64) {
+// An entry's words.
+fn say_entry(first: u64, second: u64, place: u64) {
     say_with(b" (#", first);
-    say_with(b", #)", second);
+    say_with(b", #", second);
+    say_with(b", #)", place);
 }
 
 // The first so many entries of a store, or all if there are fewer.
@@ -43,7 +44,11 @@ pub fn say_entries(store: &[u64], count: usize) {
         if entry::room(store.len()) <= i {
             return;
         }
-        say_entry(entry::first(store, i), entry::second(store, i));
+        say_entry(
+            entry::first(store, i),
+            entry::second(store, i),
+            entry::place(store, i),
+        );
         i += 1;
     }
 }

@@ -2,23 +2,25 @@
 use say::say;
 use say::say_with;
 ghost use mathlib.Core.Path.{_≡_};
+ghost use Prim.Native.Nat.{_*_};
 ghost use lib.ListN.{length};
+ghost use Rattle.wire.specs.Answers.{wordsPer};
 ghost use Rattle.io.specs.Counts.{Counts};
 
-// The room for a message, a stream, a pool or an output.
-pub const LARGE: usize = 262144;
+// The room for a message, a stream, a value list, a pool or an output: 24 bytes for each of 16,384 entries.
+pub const LARGE: usize = 393216;
 
 pub fn large_room() -> [u8; LARGE]
-    ensures { λ r. ⌜ 262144 ≡ length r ⌝ }
+    ensures { λ r. ⌜ 393216 ≡ length r ⌝ }
 {
     [0; LARGE]
 }
 
 // The words of 16,384 entries, for a store or a value list.
-const WORDS: usize = 32768;
+const WORDS: usize = 16384 * entry::WORDS;
 
 pub fn words_room() -> [u64; WORDS]
-    ensures { λ r. ⌜ 32768 ≡ length r ⌝ }
+    ensures { λ r. ⌜ 16384 * wordsPer ≡ length r ⌝ }
 {
     [0; WORDS]
 }

@@ -1,4 +1,4 @@
-// What a planner runs: shelf table, read, append, frames and write, each over files. Without such words it says how to use it.
+// What a planner runs: shelf table, read, bytes, append, frames and write, each over files. Without such words it says how to use it.
 mod files;
 mod frames;
 mod shown;
@@ -8,6 +8,7 @@ mod writing;
 enum Verb {
     Table,
     Read,
+    Bytes,
     Append,
     Frames,
     Write,
@@ -18,6 +19,7 @@ fn say_usage() {
     say::say(
         b"shelf table FILE                    is the table good? its shape as a tree\n\
         shelf read TABLE MESSAGE            each entry of the message on a line, and the rest\n\
+        shelf bytes TABLE MESSAGE           the same, each entry with its place and its bytes\n\
         shelf append OLD NEW                does the new table only append to the old one?\n\
         shelf frames FILE                   the messages in a recorded stream of frames\n\
         shelf write TABLE VALUES POOL OUT   writes the message of a value list\n",
@@ -30,6 +32,9 @@ fn verb_of(word: &[u8]) -> Verb {
     }
     if check::same(word, b"read") {
         return Verb::Read;
+    }
+    if check::same(word, b"bytes") {
+        return Verb::Bytes;
     }
     if check::same(word, b"append") {
         return Verb::Append;
@@ -48,6 +53,7 @@ fn words_of(verb: Verb) -> usize {
     match verb {
         Verb::Table => 3,
         Verb::Read => 4,
+        Verb::Bytes => 4,
         Verb::Append => 4,
         Verb::Frames => 3,
         Verb::Write => 6,
@@ -66,7 +72,7 @@ fn run_on_new(old: &[u8]) {
     }
 }
 
-// shelf read TABLE MESSAGE or shelf write TABLE VALUES POOL OUT, with the table.
+// shelf read TABLE MESSAGE, shelf bytes TABLE MESSAGE or shelf write TABLE VALUES POOL OUT, with the table.
 fn run_on_file(verb: Verb, table: &[u8]) {
     let mut room = files::large_room();
     let loaded = files::load(3, &mut room);
@@ -74,7 +80,8 @@ fn run_on_file(verb: Verb, table: &[u8]) {
     let len = loaded.len;
     if whole {
         match verb {
-            Verb::Read => shown::read(table, &room[..len]),
+            Verb::Read => shown::read(table, &room[..len], false),
+            Verb::Bytes => shown::read(table, &room[..len], true),
             _ => writing::write_values(table, &room[..len]),
         }
     }

@@ -3,12 +3,12 @@ use crate::files;
 use parting::Parting;
 use say::say;
 
-// Reads a message by a table. There is room for 16,384 entries.
-pub fn read(table: &[u8], message: &[u8]) {
+// Reads a message by a table, and shows its items' bytes where they are asked for. There is room for 16,384 entries.
+pub fn read(table: &[u8], message: &[u8], bytes: bool) {
     let mut store = files::words_room();
     let answer = reader::read(table, message, &mut store);
     let rest = reader::rest(message, answer);
-    listing::entries::show(table, message, &store, answer, rest);
+    listing::entries::show(table, message, &store, answer, rest, bytes);
 }
 
 // Asks whether a new table only appends to an old one.

@@ -89,7 +89,7 @@ writeSays (Written p) = done p
 writeSays (NotWritten why p) = numbered why p
 
 unfoldable pub takeSays : TakeAnswer → Numbered
-takeSays (Taken a b p) = done p
+takeSays (Taken a b at p) = done p
 takeSays (NotTaken why p) = numbered why p
 
 unfoldable pub askSays : AskAnswer → Numbered
@@ -99,10 +99,10 @@ askSays (NotAsked side why i) = numbered why i
 -- ---- entries as words
 
 abbrev pub wordsPer : ℕ
-wordsPer = 2
+wordsPer = 3
 
 unfoldable pub wordsOf : Entry → List ℕ
-wordsOf e = e .first ∷ e .second ∷ []
+wordsOf e = e .first ∷ e .second ∷ e .place ∷ []
 
 unfoldable pub words : List Entry → List ℕ
 words [] = []
@@ -112,7 +112,8 @@ words (e ∷ es) = wordsOf e ++ words es
 unfoldable pub entriesOf : List ℕ → List Entry
 entriesOf [] = []
 entriesOf (a ∷ []) = []
-entriesOf (a ∷ b ∷ ws) = record { first = a; second = b; place = 0 } ∷ entriesOf ws
+entriesOf (a ∷ b ∷ []) = []
+entriesOf (a ∷ b ∷ p ∷ ws) = record { first = a; second = b; place = p } ∷ entriesOf ws
 
 -- a store's room in entries
 unfoldable pub roomOf : List ℕ → ℕ
@@ -156,7 +157,7 @@ unfoldable pub mayTake : ℕ → Bool
 mayTake k = pick (ltb k 14) true (both (leb 20 k) (isKind k))
 
 unfoldable pub taken : ℕ → Item → TakeAnswer
-taken p (Took a b used) = Taken a b (p + used)
+taken p (Took a b used) = Taken a b p (p + used)
 taken p (Refused why) = NotTaken why p
 
 unfoldable pub takes : ℕ → List ℕ → ℕ → TakeAnswer
@@ -167,7 +168,7 @@ takes k message p =
 
 -- the place of the record after that: behind the item, or as it was
 unfoldable pub placeAfter : ℕ → TakeAnswer → ℕ
-placeAfter p (Taken a b q) = q
+placeAfter p (Taken a b at q) = q
 placeAfter p (NotTaken why q) = p
 
 -- ---- writing

@@ -31,7 +31,7 @@ pub data Call : Type 0 where
 
 pub data Said : Type 0 where
   read : (number place count : ℕ) (store rest : List ℕ) → Said
-  took : (number place first second after : ℕ) → Said
+  took : (number place first second at after : ℕ) → Said
   wrote : (number place : ℕ) (out : List ℕ) → Said
   are : Valued → Said
   badTable : Said
@@ -46,8 +46,8 @@ readRun r message store = readSaid r (readAnswer (r .ends) (length (r .made))) m
 
 -- the answer, the entry's words, and the record's place behind it
 unfoldable pub tookSaid : ℕ → TakeAnswer → Said
-tookSaid p (Taken a b q) = took 0 q a b (placeAfter p (Taken a b q))
-tookSaid p (NotTaken why q) = took (refusalNumber why) q 0 0 (placeAfter p (NotTaken why q))
+tookSaid p (Taken a b at q) = took 0 q a b at (placeAfter p (Taken a b at q))
+tookSaid p (NotTaken why q) = took (refusalNumber why) q 0 0 0 (placeAfter p (NotTaken why q))
 
 unfoldable pub wroteForm : Form → List ℕ → Said
 wroteForm made out = wrote (writeSays (writeAnswer made) .number) (writeSays (writeAnswer made) .place) (outWith made out)
@@ -127,9 +127,13 @@ nested fields = tabled (0x05 ∷ 0 ∷ 0 ∷ 0 ∷ 0 ∷ 0 ∷ 0x12 ∷ 0 ∷ 0 
 
 -- ---- the cases
 
--- a store of nine words, and an output of four bytes
+-- words of a store as they were before a call
+unfoldable pub untouched : ℕ → List ℕ
+untouched n = replicate n 7
+
+-- a store of fourteen words, and an output of four bytes
 unfoldable pub store : List ℕ
-store = replicate 9 7
+store = untouched 14
 
 unfoldable pub out : List ℕ
 out = replicate 4 7
@@ -141,17 +145,17 @@ array = replicate 256 9
 -- document 01's thirteen
 unfoldable pub cases : List Case
 cases =
-    case (reading tableT (0xac ∷ 0x02 ∷ 0x05 ∷ 0x03 ∷ []) store) (read 0 4 4 (0 ∷ 0 ∷ 300 ∷ 0 ∷ 5 ∷ 0 ∷ 18446744073709551614 ∷ 0 ∷ 7 ∷ []) [])
-    ∷ case (reading tableT (0xac ∷ 0x02 ∷ 0x05 ∷ 0x03 ∷ 0x07 ∷ []) store) (read 0 4 4 (0 ∷ 0 ∷ 300 ∷ 0 ∷ 5 ∷ 0 ∷ 18446744073709551614 ∷ 0 ∷ 7 ∷ []) (0x07 ∷ []))
-    ∷ case (reading tableT (0xac ∷ 0x02 ∷ 0x05 ∷ []) store) (read 3 3 3 (0 ∷ 0 ∷ 300 ∷ 0 ∷ 5 ∷ 0 ∷ 7 ∷ 7 ∷ 7 ∷ []) [])
-    ∷ case (reading (leafTable 6) (0xff ∷ 0xff ∷ 0x03 ∷ []) store) (read 0 3 1 (65535 ∷ 0 ∷ 7 ∷ 7 ∷ 7 ∷ 7 ∷ 7 ∷ 7 ∷ 7 ∷ []) [])
-    ∷ case (reading (leafTable 6) (0x80 ∷ 0x80 ∷ 0x04 ∷ []) store) (read 4 0 0 (7 ∷ 7 ∷ 7 ∷ 7 ∷ 7 ∷ 7 ∷ 7 ∷ 7 ∷ 7 ∷ []) [])
-    ∷ case (reading (leafTable 6) (0x80 ∷ 0x00 ∷ []) store) (read 0 2 1 (0 ∷ 0 ∷ 7 ∷ 7 ∷ 7 ∷ 7 ∷ 7 ∷ 7 ∷ 7 ∷ []) [])
-    ∷ case (reading (leafTable 6) (0x80 ∷ 0x80 ∷ []) store) (read 3 0 0 (7 ∷ 7 ∷ 7 ∷ 7 ∷ 7 ∷ 7 ∷ 7 ∷ 7 ∷ 7 ∷ []) [])
-    ∷ case (writing (leafTable 2) (18446744073709518848 ∷ 0 ∷ []) [] out) (wrote 0 3 (255 ∷ 255 ∷ 3 ∷ 7 ∷ []))
-    ∷ case (reading (leafTable 11) (0x02 ∷ 0x61 ∷ 0x62 ∷ []) store) (read 0 3 1 (97 ∷ 0 ∷ 7 ∷ 7 ∷ 7 ∷ 7 ∷ 7 ∷ 7 ∷ 7 ∷ []) [])
-    ∷ case (reading (leafTable 11) (0x05 ∷ []) store) (read 6 0 0 (7 ∷ 7 ∷ 7 ∷ 7 ∷ 7 ∷ 7 ∷ 7 ∷ 7 ∷ 7 ∷ []) [])
-    ∷ case (reading (leafTable 11) (0x00 ∷ []) store) (read 6 0 0 (7 ∷ 7 ∷ 7 ∷ 7 ∷ 7 ∷ 7 ∷ 7 ∷ 7 ∷ 7 ∷ []) [])
+    case (reading tableT (0xac ∷ 0x02 ∷ 0x05 ∷ 0x03 ∷ []) store) (read 0 4 4 (0 ∷ 0 ∷ 0 ∷ 300 ∷ 0 ∷ 0 ∷ 5 ∷ 0 ∷ 2 ∷ 18446744073709551614 ∷ 0 ∷ 3 ∷ untouched 2) [])
+    ∷ case (reading tableT (0xac ∷ 0x02 ∷ 0x05 ∷ 0x03 ∷ 0x07 ∷ []) store) (read 0 4 4 (0 ∷ 0 ∷ 0 ∷ 300 ∷ 0 ∷ 0 ∷ 5 ∷ 0 ∷ 2 ∷ 18446744073709551614 ∷ 0 ∷ 3 ∷ untouched 2) (0x07 ∷ []))
+    ∷ case (reading tableT (0xac ∷ 0x02 ∷ 0x05 ∷ []) store) (read 3 3 3 (0 ∷ 0 ∷ 0 ∷ 300 ∷ 0 ∷ 0 ∷ 5 ∷ 0 ∷ 2 ∷ untouched 5) [])
+    ∷ case (reading (leafTable 6) (0xff ∷ 0xff ∷ 0x03 ∷ []) store) (read 0 3 1 (65535 ∷ 0 ∷ 0 ∷ untouched 11) [])
+    ∷ case (reading (leafTable 6) (0x80 ∷ 0x80 ∷ 0x04 ∷ []) store) (read 4 0 0 store [])
+    ∷ case (reading (leafTable 6) (0x80 ∷ 0x00 ∷ []) store) (read 0 2 1 (0 ∷ 0 ∷ 0 ∷ untouched 11) [])
+    ∷ case (reading (leafTable 6) (0x80 ∷ 0x80 ∷ []) store) (read 3 0 0 store [])
+    ∷ case (writing (leafTable 2) (18446744073709518848 ∷ 0 ∷ 0 ∷ []) [] out) (wrote 0 3 (255 ∷ 255 ∷ 3 ∷ 7 ∷ []))
+    ∷ case (reading (leafTable 11) (0x02 ∷ 0x61 ∷ 0x62 ∷ []) store) (read 0 3 1 (97 ∷ 0 ∷ 0 ∷ untouched 11) [])
+    ∷ case (reading (leafTable 11) (0x05 ∷ []) store) (read 6 0 0 store [])
+    ∷ case (reading (leafTable 11) (0x00 ∷ []) store) (read 6 0 0 store [])
     ∷ case (feeding array 250 (1 ∷ 2 ∷ 3 ∷ 4 ∷ 5 ∷ 6 ∷ 7 ∷ 8 ∷ 9 ∷ 10 ∷ [])) (fed 21 [] (7 ∷ 8 ∷ 9 ∷ 10 ∷ []) array 0)
     ∷ case (feeding array 0 (0x03 ∷ 0x11 ∷ 0x22 ∷ 0x02 ∷ 0x33 ∷ 0x00 ∷ [])) (fed 23 (0x11 ∷ 0x22 ∷ 0x00 ∷ 0x33 ∷ []) [] array 0)
     ∷ []
@@ -159,18 +163,18 @@ cases =
 -- our own: mistakes to keep out, lent memory, the accident of a field in front, and what appends
 unfoldable pub ours : List Case
 ours =
-    case (reading (leafTable 11) (0x03 ∷ 0x61 ∷ 0x62 ∷ 0xff ∷ []) store) (read 6 0 0 (7 ∷ 7 ∷ 7 ∷ 7 ∷ 7 ∷ 7 ∷ 7 ∷ 7 ∷ 7 ∷ []) [])
-    ∷ case (reading (leafTable 11) (0x03 ∷ 0xed ∷ 0xa0 ∷ 0x80 ∷ []) store) (read 6 0 0 (7 ∷ 7 ∷ 7 ∷ 7 ∷ 7 ∷ 7 ∷ 7 ∷ 7 ∷ 7 ∷ []) [])
-    ∷ case (reading (leafTable 12) (0x02 ∷ 0xc3 ∷ 0xa9 ∷ 0x41 ∷ []) store) (read 0 3 1 (1 ∷ 2 ∷ 7 ∷ 7 ∷ 7 ∷ 7 ∷ 7 ∷ 7 ∷ 7 ∷ []) (0x41 ∷ []))
-    ∷ case (reading (leafTable 12) (0x01 ∷ 0xc3 ∷ []) store) (read 7 0 0 (7 ∷ 7 ∷ 7 ∷ 7 ∷ 7 ∷ 7 ∷ 7 ∷ 7 ∷ 7 ∷ []) [])
-    ∷ case (reading (leafTable 13) (0xff ∷ 0xff ∷ 0xff ∷ 0xff ∷ 0xff ∷ 0xff ∷ 0xff ∷ 0xff ∷ 0xff ∷ 0x01 ∷ []) store) (read 3 0 0 (7 ∷ 7 ∷ 7 ∷ 7 ∷ 7 ∷ 7 ∷ 7 ∷ 7 ∷ 7 ∷ []) [])
-    ∷ case (reading (tabled (0x0e ∷ 0x00 ∷ 0x00 ∷ 0x00 ∷ 0x00 ∷ 0x00 ∷ 0x10 ∷ 0x00 ∷ 0x00 ∷ 0x00 ∷ 0x00 ∷ 0x00 ∷ []) [] 2 1) (0xff ∷ 0xff ∷ 0xff ∷ 0xff ∷ 0xff ∷ 0xff ∷ 0xff ∷ 0xff ∷ 0xff ∷ 0x01 ∷ []) store) (read 10 10 4 (18446744073709551615 ∷ 0 ∷ 0 ∷ 0 ∷ 0 ∷ 0 ∷ 0 ∷ 0 ∷ 7 ∷ []) [])
-    ∷ case (reading (leafTable 0) (0x07 ∷ []) (7 ∷ [])) (read 10 0 0 (7 ∷ []) [])
-    ∷ case (reading (leafTable 0) (0x07 ∷ []) store) (read 5 0 0 (7 ∷ 7 ∷ 7 ∷ 7 ∷ 7 ∷ 7 ∷ 7 ∷ 7 ∷ 7 ∷ []) [])
-    ∷ case (reading (leafTable 26) (0xff ∷ 0xfe ∷ 0x01 ∷ []) store) (read 0 2 1 (18446744073709551614 ∷ 0 ∷ 7 ∷ 7 ∷ 7 ∷ 7 ∷ 7 ∷ 7 ∷ 7 ∷ []) (0x01 ∷ []))
+    case (reading (leafTable 11) (0x03 ∷ 0x61 ∷ 0x62 ∷ 0xff ∷ []) store) (read 6 0 0 store [])
+    ∷ case (reading (leafTable 11) (0x03 ∷ 0xed ∷ 0xa0 ∷ 0x80 ∷ []) store) (read 6 0 0 store [])
+    ∷ case (reading (leafTable 12) (0x02 ∷ 0xc3 ∷ 0xa9 ∷ 0x41 ∷ []) store) (read 0 3 1 (1 ∷ 2 ∷ 0 ∷ untouched 11) (0x41 ∷ []))
+    ∷ case (reading (leafTable 12) (0x01 ∷ 0xc3 ∷ []) store) (read 7 0 0 store [])
+    ∷ case (reading (leafTable 13) (0xff ∷ 0xff ∷ 0xff ∷ 0xff ∷ 0xff ∷ 0xff ∷ 0xff ∷ 0xff ∷ 0xff ∷ 0x01 ∷ []) store) (read 3 0 0 store [])
+    ∷ case (reading (tabled (0x0e ∷ 0x00 ∷ 0x00 ∷ 0x00 ∷ 0x00 ∷ 0x00 ∷ 0x10 ∷ 0x00 ∷ 0x00 ∷ 0x00 ∷ 0x00 ∷ 0x00 ∷ []) [] 2 1) (0xff ∷ 0xff ∷ 0xff ∷ 0xff ∷ 0xff ∷ 0xff ∷ 0xff ∷ 0xff ∷ 0xff ∷ 0x01 ∷ []) store) (read 10 10 4 (18446744073709551615 ∷ 0 ∷ 0 ∷ 0 ∷ 0 ∷ 10 ∷ 0 ∷ 0 ∷ 10 ∷ 0 ∷ 0 ∷ 10 ∷ untouched 2) [])
+    ∷ case (reading (leafTable 0) (0x07 ∷ []) (untouched 2)) (read 10 0 0 (untouched 2) [])
+    ∷ case (reading (leafTable 0) (0x07 ∷ []) store) (read 5 0 0 store [])
+    ∷ case (reading (leafTable 26) (0xff ∷ 0xfe ∷ 0x01 ∷ []) store) (read 0 2 1 (18446744073709551614 ∷ 0 ∷ 0 ∷ untouched 11) (0x01 ∷ []))
     ∷ case (reading (0x01 ∷ 0x02 ∷ []) (0x07 ∷ []) store) (read 1 0 0 store [])
     ∷ case (reading (leafTable 32) (0x07 ∷ []) store) (read 2 0 0 store [])
-    ∷ case (reading tableT (0x07 ∷ 0xac ∷ 0x02 ∷ 0x05 ∷ 0x03 ∷ []) store) (read 0 4 4 (0 ∷ 0 ∷ 7 ∷ 0 ∷ 300 ∷ 0 ∷ 18446744073709551613 ∷ 0 ∷ 7 ∷ []) (0x03 ∷ []))
+    ∷ case (reading tableT (0x07 ∷ 0xac ∷ 0x02 ∷ 0x05 ∷ 0x03 ∷ []) store) (read 0 4 4 (0 ∷ 0 ∷ 0 ∷ 7 ∷ 0 ∷ 0 ∷ 300 ∷ 0 ∷ 1 ∷ 18446744073709551613 ∷ 0 ∷ 3 ∷ untouched 2) (0x03 ∷ []))
     ∷ case (asking tableT inFront) (asked 0 0 false)
     ∷ case (asking tableT atEnd) (asked 0 0 true)
     ∷ case (asking (nested 1) (nested 1)) (asked 0 0 true)
@@ -178,22 +182,25 @@ ours =
     ∷ case (asking oneVariant (twoVariants (0 ∷ 0 ∷ 1 ∷ 0 ∷ []))) (asked 0 0 true)
     ∷ case (asking oneVariant (twoVariants (1 ∷ 0 ∷ 0 ∷ 0 ∷ []))) (asked 0 0 false)
     ∷ case (asking tableT (leafTable 32)) (asked 2 0 false)
-    ∷ case (valuing (leafTable 12) (1 ∷ 2 ∷ []) (0x61 ∷ 0x62 ∷ 0x63 ∷ [])) (are (whole (content (0x62 ∷ 0x63 ∷ []) ∷ [])))
-    ∷ case (valuing oneVariant (2 ∷ 0 ∷ 0 ∷ 0 ∷ 5 ∷ 0 ∷ []) []) (are (tooShort (number 2 0 ∷ number 0 0 ∷ number 5 0 ∷ [])))
-    ∷ case (valuing oneVariant (1 ∷ 0 ∷ 1 ∷ 0 ∷ 5 ∷ 0 ∷ []) []) (are (unknown (number 1 0 ∷ [])))
-    ∷ case (writing (leafTable 2) (1 ∷ 1 ∷ []) [] out) (wrote 11 0 out)
-    ∷ case (writing (leafTable 2) (1 ∷ 0 ∷ 0 ∷ []) [] out) (wrote 11 1 out)
+    ∷ case (valuing (leafTable 12) (1 ∷ 2 ∷ 0 ∷ []) (0x61 ∷ 0x62 ∷ 0x63 ∷ [])) (are (whole (content (0x62 ∷ 0x63 ∷ []) ∷ [])))
+    ∷ case (valuing oneVariant (2 ∷ 0 ∷ 0 ∷ 0 ∷ 0 ∷ 1 ∷ 5 ∷ 0 ∷ 2 ∷ []) []) (are (tooShort (number 2 0 ∷ number 0 0 ∷ number 5 0 ∷ [])))
+    ∷ case (valuing oneVariant (1 ∷ 0 ∷ 0 ∷ 1 ∷ 0 ∷ 1 ∷ 5 ∷ 0 ∷ 2 ∷ []) []) (are (unknown (number 1 0 ∷ [])))
+    ∷ case (writing (leafTable 2) (1 ∷ 1 ∷ 0 ∷ []) [] out) (wrote 11 0 out)
+    ∷ case (writing (leafTable 2) (1 ∷ 0 ∷ 9 ∷ []) [] out) (wrote 0 1 (2 ∷ 7 ∷ 7 ∷ 7 ∷ []))
+    ∷ case (writing (leafTable 2) (1 ∷ 0 ∷ []) [] out) (wrote 11 0 out)
     ∷ case (writing (leafTable 2) (1 ∷ 0 ∷ 0 ∷ 0 ∷ []) [] out) (wrote 11 1 out)
-    ∷ case (writing tableT (0 ∷ 0 ∷ 1 ∷ 0 ∷ []) [] out) (wrote 11 2 out)
-    ∷ case (writing (leafTable 8) (34359738368 ∷ 0 ∷ []) [] out) (wrote 12 0 out)
-    ∷ case (writing (leafTable 12) (3 ∷ 0 ∷ []) (0x61 ∷ 0x62 ∷ []) out) (wrote 11 0 out)
+    ∷ case (writing (leafTable 2) (1 ∷ 1 ∷ 0 ∷ 0 ∷ 0 ∷ []) [] out) (wrote 11 1 out)
+    ∷ case (writing (leafTable 2) (1 ∷ 0 ∷ 0 ∷ 0 ∷ 0 ∷ 0 ∷ []) [] out) (wrote 11 1 out)
+    ∷ case (writing tableT (0 ∷ 0 ∷ 0 ∷ 1 ∷ 0 ∷ 0 ∷ []) [] out) (wrote 11 2 out)
+    ∷ case (writing (leafTable 8) (34359738368 ∷ 0 ∷ 0 ∷ []) [] out) (wrote 12 0 out)
+    ∷ case (writing (leafTable 12) (3 ∷ 0 ∷ 0 ∷ []) (0x61 ∷ 0x62 ∷ []) out) (wrote 11 0 out)
     ∷ case (feeding array 257 (0 ∷ [])) (fed 24 [] (0 ∷ []) array 257)
     ∷ case (feeding array 0 (0 ∷ [])) (fed 23 [] [] array 0)
     ∷ case (feeding array 0 (3 ∷ 1 ∷ 0 ∷ 5 ∷ [])) (fed 22 [] (5 ∷ []) array 0)
     ∷ case (feeding array 254 (1 ∷ 1 ∷ [])) (fed 20 [] [] (replicate 254 9 ++ (1 ∷ 1 ∷ [])) 256)
     ∷ case (feeding array 255 (1 ∷ 0 ∷ 5 ∷ [])) (fed 21 [] (5 ∷ []) array 0)
-    ∷ case (taking 14 [] 5) (took 2 0 0 0 5)
-    ∷ case (taking 6 (0x05 ∷ 0x80 ∷ []) 1) (took 3 1 0 0 1)
-    ∷ case (taking 6 (0x05 ∷ 0x81 ∷ 0x01 ∷ []) 1) (took 0 3 129 0 3)
-    ∷ case (taking 5 (0x05 ∷ []) 2) (took 3 2 0 0 2)
+    ∷ case (taking 14 [] 5) (took 2 0 0 0 0 5)
+    ∷ case (taking 6 (0x05 ∷ 0x80 ∷ []) 1) (took 3 1 0 0 0 1)
+    ∷ case (taking 6 (0x05 ∷ 0x81 ∷ 0x01 ∷ []) 1) (took 0 3 129 0 1 3)
+    ∷ case (taking 5 (0x05 ∷ []) 2) (took 3 2 0 0 0 2)
     ∷ []

@@ -62,11 +62,13 @@ pub enum WriteAnswer {
     Refused { why: Refusal, place: usize },
 }
 
-// How the taking of one item ends: its entry and the place behind it, or a refusal and its place.
+// How the taking of one item ends: its entry, which is two words and the place where it stands, and the place behind it;
+// or a refusal and its place.
 pub enum TakeAnswer {
     Done {
         first: u64,
         second: u64,
+        at: usize,
         place: usize,
     },
     Refused {

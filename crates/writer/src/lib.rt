@@ -19,7 +19,7 @@ ghost use Rattle.writer.specs.Promise.{Tried};
 const SHORT: usize = 64;
 
 // So many words at most has a list that is tried as a few integers.
-const FEW: usize = 32;
+const FEW: usize = 16 * entry::WORDS;
 
 // What became of a list that was tried as a few integers: so many bytes are put; or it is another list, and nothing is.
 enum Few {

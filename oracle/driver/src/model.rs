@@ -83,15 +83,15 @@ impl Reader<'_> {
         if self.entries.len() >= self.room {
             return Err(Refusal { no: 10, place: at });
         }
-        let (entry, used) = self.own(node, &m[at..], at).map_err(|no| Refusal { no, place: at })?;
-        self.entries.push(entry);
+        let ([w0, w1], used) = self.own(node, &m[at..], at).map_err(|no| Refusal { no, place: at })?;
+        self.entries.push([w0, w1, at as u64]);
         let mut at = at + used;
         let table = self.table;
         let node = &table.nodes[node];
         match node.kind {
-            table::OPTION if entry[0] == 1 => at = self.item(node.kids[0], m, at)?,
+            table::OPTION if w0 == 1 => at = self.item(node.kids[0], m, at)?,
             table::SEQ | table::MAP => {
-                for _ in 0..entry[0] {
+                for _ in 0..w0 {
                     for &k in &node.kids {
                         at = self.item(k, m, at)?;
                     }
@@ -102,14 +102,14 @@ impl Reader<'_> {
                     at = self.item(k, m, at)?;
                 }
             }
-            table::ENUM => at = self.item(node.kids[entry[0] as usize], m, at)?,
+            table::ENUM => at = self.item(node.kids[w0 as usize], m, at)?,
             _ => {}
         }
         Ok(at)
     }
 
-    /// The item's own bytes, which are the first of `m`: its entry and how many there are.
-    fn own(&self, node: usize, m: &[u8], at: usize) -> Result<(Entry, usize), u8> {
+    /// The item's own bytes, which are the first of `m`: its two words and how many there are.
+    fn own(&self, node: usize, m: &[u8], at: usize) -> Result<([u64; 2], usize), u8> {
         let node = &self.table.nodes[node];
         let plain = |(value, used): (u64, usize)| ([value, 0], used);
         let zigzag = |(z, used): (u64, usize)| {
@@ -195,12 +195,12 @@ impl Reader<'_> {
     }
 }
 
-pub fn read<'m>(file: &[u8], message: &'m [u8], room: usize) -> ReadAnswer<'m> {
+pub fn read<'m>(file: &[u8], message: &'m [u8], store_words: usize) -> ReadAnswer<'m> {
     let table = match Table::parse(file) {
         Ok(table) => table,
         Err(Refusal { no, place }) => return ReadAnswer { no, place, entries: vec![], rest: &[] },
     };
-    let mut reader = Reader { table: &table, room, entries: vec![] };
+    let mut reader = Reader { table: &table, room: store_words / 3, entries: vec![] };
     let done = reader.item(table.root, message, 0);
     let entries = reader.entries;
     match done {
@@ -256,7 +256,7 @@ pub fn write_good(table: &Table, entries: &[Entry], pool: &[u8], style: &mut imp
 
 fn put(t: &Table, node: usize, left: &mut &[Entry], pool: &[u8], style: &mut impl Style, out: &mut Vec<u8>) {
     let node = &t.nodes[node];
-    let [w0, w1] = left[0];
+    let [w0, w1, _] = left[0];
     *left = &left[1..];
     let zigzag = if (w0 as i64) < 0 { (w0.wrapping_neg() - 1) * 2 + 1 } else { w0 * 2 };
     let little = w0.to_le_bytes();
@@ -305,7 +305,10 @@ fn put(t: &Table, node: usize, left: &mut &[Entry], pool: &[u8], style: &mut imp
 
 pub fn write(file: &[u8], words: &[u64], pool: &[u8], out_len: usize) -> Result<Vec<u8>, Refusal> {
     let table = Table::parse(file)?;
-    let entries = crate::write::entries_of(words)?;
+    if words.len() % 3 != 0 {
+        return Err(Refusal { no: 11, place: words.len() / 3 });
+    }
+    let entries: Vec<Entry> = words.chunks(3).map(|w| [w[0], w[1], 0]).collect();
     crate::write::fit(&table, &entries, pool)?;
     let wire = write_good(&table, &entries, pool, &mut Plain);
     if wire.len() > out_len {

@@ -48,7 +48,7 @@ fn entries_text(entries: &[Entry]) -> String {
     if entries.is_empty() {
         return "-".into();
     }
-    entries.iter().map(|[a, b]| format!("{a:x},{b:x}")).collect::<Vec<_>>().join(" ")
+    entries.iter().map(|[a, b, at]| format!("{a:x},{b:x},{at:x}")).collect::<Vec<_>>().join(" ")
 }
 
 fn read_text(a: &ReadAnswer) -> String {
@@ -66,10 +66,10 @@ fn write_text(a: &Result<Vec<u8>, Refusal>) -> String {
 pub fn answer(line: &str, from_document: bool) -> Result<String, String> {
     let f: Vec<&str> = line.split_ascii_whitespace().collect();
     match f[..] {
-        ["R", table, message, room] => {
+        ["R", table, message, store_words] => {
             let (table, message) = (unhex(table)?, unhex(message)?);
             let read = if from_document { model::read } else { read::read };
-            Ok(read_text(&read(&table, &message, number(room)? as usize)))
+            Ok(read_text(&read(&table, &message, number(store_words)? as usize)))
         }
         ["W", table, list, pool, out_len] => {
             let write = if from_document { model::write } else { write::write };

@@ -1,7 +1,7 @@
 //! Reading: the real `postcard::Deserializer` under a table-driven seed and visitor.
 
 use crate::table::{self, Table};
-use crate::{Entry, ReadAnswer, Refusal};
+use crate::{room, Entry, ReadAnswer, Refusal};
 use core::cell::Cell;
 use core::fmt;
 use postcard::de_flavors::{Flavor, Slice};
@@ -56,8 +56,9 @@ struct Walk<'w> {
     base: *const u8,
     room: usize,
     at: &'w Cell<usize>,
-    /// First byte of the item being read. An item's own bytes are all read before its first
-    /// child starts, so when the crate errs this is the refusing item's first byte.
+    /// Where the cursor stood when the item being read began. An item's own bytes are all read, and
+    /// its entry put, before its first child starts, so this is the place of the item whose entry is
+    /// put, and when the crate errs that of the refusing item.
     item: usize,
     /// Set when the refusal is one of those 01 adds (9, 10).
     added: Option<u8>,
@@ -67,10 +68,10 @@ struct Walk<'w> {
 impl Walk<'_> {
     #[inline]
     fn put(&mut self, w0: u64, w1: u64) {
-        self.entries.push([w0, w1]);
+        self.entries.push([w0, w1, self.item as u64]);
     }
-    fn part(&self, bytes: &[u8]) -> Entry {
-        [(bytes.as_ptr() as usize - self.base as usize) as u64, bytes.len() as u64]
+    fn put_part(&mut self, bytes: &[u8]) {
+        self.put((bytes.as_ptr() as usize - self.base as usize) as u64, bytes.len() as u64);
     }
 }
 
@@ -202,13 +203,11 @@ impl<'de> Visitor<'de> for Item<'_, '_> {
         Ok(())
     }
     fn visit_borrowed_str<E>(self, v: &'de str) -> Result<(), E> {
-        let [offset, len] = self.walk.part(v.as_bytes());
-        self.walk.put(offset, len);
+        self.walk.put_part(v.as_bytes());
         Ok(())
     }
     fn visit_borrowed_bytes<E>(self, v: &'de [u8]) -> Result<(), E> {
-        let [offset, len] = self.walk.part(v);
-        self.walk.put(offset, len);
+        self.walk.put_part(v);
         Ok(())
     }
     fn visit_unit<E>(self) -> Result<(), E> {
@@ -297,16 +296,16 @@ pub fn read_good<'m>(table: &Table, message: &'m [u8], room: usize, store: Vec<E
     }
 }
 
-/// The reader's public call.
-pub fn read<'m>(file: &[u8], message: &'m [u8], room: usize) -> ReadAnswer<'m> {
+/// The reader's public call, with a store of so many words.
+pub fn read<'m>(file: &[u8], message: &'m [u8], store_words: usize) -> ReadAnswer<'m> {
     match Table::parse(file) {
-        Ok(table) => read_good(&table, message, room, Vec::new()),
+        Ok(table) => read_good(&table, message, room(store_words), Vec::new()),
         Err(Refusal { no, place }) => ReadAnswer { no, place, entries: vec![], rest: &[] },
     }
 }
 
 /// The thin reader record: take one item of a kind at a place.
-/// Gives the entry and the place behind the item.
+/// Gives the entry, its places counted from the message's start, and the place behind the item.
 pub fn take(kind: u8, message: &[u8], place: usize) -> Result<(Entry, usize), Refusal> {
     if !matches!(kind, 0..=13 | 20..=31) {
         return Err(Refusal { no: 2, place: 0 });
@@ -318,9 +317,9 @@ pub fn take(kind: u8, message: &[u8], place: usize) -> Result<(Entry, usize), Re
     if got.no != 0 {
         return Err(Refusal { no: got.no, place: place + got.place });
     }
-    let [mut w0, w1] = got.entries[0];
+    let [mut w0, w1, at] = got.entries[0];
     if matches!(kind, table::STR | table::BYTES) {
         w0 += place as u64;
     }
-    Ok(([w0, w1], place + got.place))
+    Ok(([w0, w1, place as u64 + at], place + got.place))
 }

@@ -1,20 +1,21 @@
 //! Writing: 11 from 01, then the real `postcard::Serializer` under a table-driven `Serialize`.
 
 use crate::table::{self, Table};
-use crate::{Entry, Refusal};
+use crate::{Entry, Refusal, WORDS};
 use core::cell::Cell;
 use postcard::{fixint, Error};
 use serde::ser::{Serialize, SerializeMap, SerializeSeq, SerializeTuple, Serializer};
 
-/// Pairs the words up. An odd number of words is 11 at half that number.
+/// The words as entries. A number of words that isn't a multiple of three is 11 at a third of it, rounded down.
 pub fn entries_of(words: &[u64]) -> Result<Vec<Entry>, Refusal> {
-    if words.len() % 2 == 1 {
-        return Err(Refusal { no: 11, place: words.len() / 2 });
+    let entries = words.chunks_exact(WORDS);
+    if !entries.remainder().is_empty() {
+        return Err(Refusal { no: 11, place: entries.len() });
     }
-    Ok(words.chunks(2).map(|w| [w[0], w[1]]).collect())
+    Ok(entries.map(|w| [w[0], w[1], w[2]]).collect())
 }
 
-/// Does the list fit? From 01.
+/// Does the list fit? From 01. An item's place, the third word, isn't looked at.
 pub fn fit(table: &Table, entries: &[Entry], pool: &[u8]) -> Result<(), Refusal> {
     let mut at = 0;
     fit_item(table, table.root, entries, pool, &mut at)?;
@@ -26,7 +27,7 @@ pub fn fit(table: &Table, entries: &[Entry], pool: &[u8]) -> Result<(), Refusal>
 
 fn fit_item(table: &Table, node: usize, entries: &[Entry], pool: &[u8], at: &mut usize) -> Result<(), Refusal> {
     let refusal = Refusal { no: 11, place: *at };
-    let Some(&[w0, w1]) = entries.get(*at) else {
+    let Some(&[w0, w1, _]) = entries.get(*at) else {
         return Err(refusal);
     };
     let node = &table.nodes[node];
@@ -100,7 +101,7 @@ impl Serialize for Value<'_, '_> {
     fn serialize<S: Serializer>(&self, s: S) -> Result<S::Ok, S::Error> {
         let list = self.list;
         let node = &list.table.nodes[self.node];
-        let [w0, w1] = list.entries[list.at.replace(list.at.get() + 1)];
+        let [w0, w1, _] = list.entries[list.at.replace(list.at.get() + 1)];
         let kid = |k: usize| Value { list, node: node.kids[k] };
         let bytes = || part(list.pool, w0, w1).expect("fits");
         match node.kind {

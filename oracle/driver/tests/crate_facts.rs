@@ -90,5 +90,29 @@ fn nan_bits() {
 #[test]
 fn empty_text() {
     let got = oracle_driver::read::read_good(&oracle_driver::table::Table::leaf(12), &[0], 1, vec![]);
-    assert_eq!((got.no, got.place, &got.entries[..]), (0, 1, &[[1, 0]][..]));
+    assert_eq!((got.no, got.place, &got.entries[..]), (0, 1, &[[1, 0, 0]][..]));
+}
+
+/// T-01: an entry's third word is where the crate's cursor stood when the item began. Items without
+/// bytes stand where the cursor is, also at the message's end.
+#[test]
+fn where_items_stand() {
+    use oracle_driver::table::*;
+    let node = |kind, kids: &[usize]| Node { kind, kids: kids.to_vec() };
+    let nodes = vec![
+        node(U16, &[]),
+        node(UNIT, &[]),
+        node(STR, &[]),
+        node(OPTION, &[0]),
+        node(SEQ, &[3]),
+        node(ENUM, &[1, 0]),
+        node(STRUCT, &[]),
+        node(STRUCT, &[0, 1, 2, 4, 5, 6]),
+    ];
+    let table = Table { nodes, root: 7 };
+    // u16 1 (overlong), unit, "ab", a sequence of an absent and a present option, variant 0, a struct of nothing.
+    let message = [0x81, 0x80, 0x00, 2, 0x61, 0x62, 2, 0, 1, 9, 0];
+    let got = oracle_driver::read::read_good(&table, &message, 11, vec![]);
+    assert_eq!((got.no, got.place), (0, 11));
+    assert_eq!(got.entries.iter().map(|e| e[2]).collect::<Vec<_>>(), [0, 0, 3, 3, 6, 7, 8, 9, 10, 11, 11]);
 }

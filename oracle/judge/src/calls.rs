@@ -2,7 +2,7 @@
 use oracle_driver::append::{appends, Which};
 use oracle_driver::feed::{feed, ROOM};
 use oracle_driver::proto::{number, unhex, words};
-use oracle_driver::{read, table, write, Refusal};
+use oracle_driver::{read, table, write, Refusal, WORDS};
 use reystavem::{Accumulator, Fed, Refused, Side};
 use std::fmt::Debug;
 
@@ -37,10 +37,10 @@ pub fn check(table: &[u8]) -> Result<(), Differs> {
     same("check", ours, right)
 }
 
-/// A store of an odd number of words has the room of the even number below.
-pub fn read(table: &[u8], message: &[u8], room: usize) -> Result<(), Differs> {
-    let right = read::read(table, message, room);
-    let before = lent(2 * room + message.len() % 2);
+/// Into a store of so many words.
+pub fn read(table: &[u8], message: &[u8], words: usize) -> Result<(), Differs> {
+    let right = read::read(table, message, words);
+    let before = lent(words);
     let mut store = before.clone();
     let (ours, count, rest) = match reystavem::read(table, message, &mut store) {
         Ok(read) => ((0, message.len() - read.rest.len()), read.count, read.rest),
@@ -50,7 +50,7 @@ pub fn read(table: &[u8], message: &[u8], room: usize) -> Result<(), Differs> {
     same("count", count, right.entries.len())?;
     same("rest", rest, right.rest)?;
     let mut after = before;
-    after[..2 * count].copy_from_slice(right.entries.as_flattened());
+    after[..WORDS * count].copy_from_slice(right.entries.as_flattened());
     same("store", store, after)
 }
 
@@ -93,12 +93,35 @@ fn feeding(idx: u64, array: [u8; ROOM], chunk: &[u8]) -> Result<(), Differs> {
 
 pub fn take(kind: u64, message: &[u8], place: usize) -> Result<(), Differs> {
     let ours = reystavem::take(kind, message, place).map_err(numbered);
-    let right = read::take(u8::try_from(kind).unwrap_or(u8::MAX), message, place);
-    same(
-        "answer",
-        ours.map(|(entry, behind)| ([entry.first, entry.second], behind)),
-        right.map_err(|Refusal { no, place }| (no, place)),
-    )
+    let right =
+        read::take(u8::try_from(kind).unwrap_or(u8::MAX), message, place).map_err(|Refusal { no, place }| (no, place));
+    same("answer", ours.map(|(entry, behind)| ([entry.first, entry.second, entry.place as u64], behind)), right)?;
+    let (number, entry, behind) = match right {
+        Ok((entry, behind)) => (0, entry, behind),
+        Err((number, _)) => (number, [0; WORDS], place),
+    };
+    same("number, entry and place in C", take_in_c(kind, message, place), (number.into(), entry, behind as u64))
+}
+
+extern "C" {
+    fn reystavem_take(
+        kind: u64,
+        message: *const u8,
+        message_len: usize,
+        place: *mut u64,
+        first: *mut u64,
+        second: *mut u64,
+        at: *mut u64,
+    ) -> u64;
+}
+
+/// The number, the entry and the place as the header has them. The bindings hide what a refusal writes.
+fn take_in_c(kind: u64, message: &[u8], place: usize) -> (u64, [u64; WORDS], u64) {
+    let (mut behind, mut entry) = (place as u64, [u64::MAX; WORDS]);
+    let [first, second, at] = &mut entry;
+    // SAFETY: the slice is lent with its own length; the numbers are ours.
+    let number = unsafe { reystavem_take(kind, message.as_ptr(), message.len(), &mut behind, first, second, at) };
+    (number, entry, behind)
 }
 
 pub fn kind_of(line: &str) -> &'static str {
@@ -120,9 +143,9 @@ pub fn judge(line: &str) -> Result<(), Differs> {
 fn parsed(line: &str) -> Result<Result<(), Differs>, String> {
     let fields: Vec<&str> = line.split_ascii_whitespace().collect();
     Ok(match fields[..] {
-        ["R", table, message, room] => {
-            let (table, message, room) = (unhex(table)?, unhex(message)?, number(room)? as usize);
-            check(&table).and_then(|()| read(&table, &message, room))
+        ["R", table, message, words] => {
+            let (table, message, words) = (unhex(table)?, unhex(message)?, number(words)? as usize);
+            check(&table).and_then(|()| read(&table, &message, words))
         }
         ["W", table, list, pool, out] => write(&unhex(table)?, &words(list)?, &unhex(pool)?, number(out)? as usize),
         ["A", old, new] => append(&unhex(old)?, &unhex(new)?),

@@ -1,5 +1,5 @@
 //! Every message of up to two bytes, for each leaf kind and a set of small tables, with stores from no
-//! entry to more than enough; and every taking from every place.
+//! entry to more than enough, and words over; and every taking from every place.
 use crate::{calls, Tally};
 use oracle_driver::table::Table;
 
@@ -50,9 +50,9 @@ pub fn run() -> Tally {
     let tables: Vec<Vec<u8>> = leaves.chain(small_tables()).collect();
     for message in messages() {
         for table in &tables {
-            for room in [0, 1, 2, 5] {
-                let outcome = calls::read(table, &message, room);
-                tally.note("reading", outcome, || format!("{table:02x?} {message:02x?} room {room}"));
+            for words in [2, 3, 7, 17] {
+                let outcome = calls::read(table, &message, words);
+                tally.note("reading", outcome, || format!("{table:02x?} {message:02x?}, {words} words"));
             }
         }
         for kind in 0..=33 {

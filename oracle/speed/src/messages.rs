@@ -2,7 +2,7 @@
 //! follows a table parsed beforehand; and the crate with types compiled in.
 use crate::timing::{race, side};
 use oracle_driver::table::{Node, Table, SEQ, STR, STRUCT, U32};
-use oracle_driver::{read, write, Entry};
+use oracle_driver::{read, write, Entry, WORDS};
 use serde::de::DeserializeOwned;
 use serde::{Deserialize, Serialize};
 use std::hint::black_box;
@@ -41,7 +41,7 @@ impl Sample<'_> {
 
     fn reading(&self) {
         let (file, entries) = (self.table.file(), self.entries());
-        let mut store = vec![0u64; 2 * entries.len()];
+        let mut store = vec![0u64; WORDS * entries.len()];
         let read = reystavem::read(&file, &self.message, &mut store).expect("a good message");
         assert_eq!((read.count, &store[..]), (entries.len(), entries.as_flattened()), "{}", self.name);
         let mut kept = Vec::with_capacity(entries.len());
@@ -62,7 +62,7 @@ impl Sample<'_> {
         let (file, count) = (self.table.file(), self.entries().len());
         let times = race([
             side(|| {
-                let mut store = vec![0u64; 2 * count];
+                let mut store = vec![0u64; WORDS * count];
                 reystavem::read(black_box(&file), black_box(&self.message), &mut store).is_ok()
             }),
             side(|| read::read_good(&self.table, black_box(&self.message), count, Vec::with_capacity(count)).no),

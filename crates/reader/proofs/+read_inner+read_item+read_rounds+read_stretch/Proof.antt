@@ -183,7 +183,7 @@ module _ (t : ℕ) where
             (begun-at head-sound _ _ _ _ _ _ _ (b .before .before .before .before .begin .ensures) (rounds-turn _ _ _ _ _ _ _ _ _ _ _ _ _ (b .before .before .before .before .before .before .before .loop .inv .0) (b .before .before .before .before .before .before .loop-test .taken)) (b .begun .given .1))
             _ _ (d .before .before .before .before .read-stretch .ensures) (d .got .given .1) .1,
         omega (arith, rounds-went d .kept),
-        d .before .before .before .before .read-stretch .kept .1 .1 .1 .1 .1 .1 .1 .1 .0 ∙ b .before .before .before .before .begin .kept .1 .1 .0 ∙ b .before .before .before .before .before .before .before .loop .inv .2,
+        d .before .before .before .before .read-stretch .kept .1 .1 .1 .1 .1 .1 .1 .1 .0 ∙ b .before .before .before .before .begin .kept .1 .1 .1 .0 ∙ b .before .before .before .before .before .before .before .loop .inv .2,
       )
 
   rounds-returns-3 : read-rounds-lts.Need-returns-3 rounds-calls rounds-at read-rounds.Post rounds-Inv rounds-μ
@@ -253,8 +253,8 @@ pub +read-inner+read-item+read-rounds+read-stretch-spec : {M : Type 1} → state
     (λ c. c .before .before .before .before .before .read-inner .kept .1 .1 .1 .1 .1 .1 .1 .0) (λ c. rw (c .before .got .given .1) at (c .before .before .before .before .before .read-inner .ensures)) (λ c κs. (c .before .before .before .before .before .before .before .before .pre .1 .1 .1, omega arith)) (λ c. c .before .before .read-leaf .kept .1 .1 .1 .0) (item-returns-4 t))
     (λ t.
     read-rounds-lts.spec (rounds-calls t) (rounds-at t) read-rounds.Post rounds-Inv rounds-μ
-    (λ c. (refl, refl, refl)) (λ c κs. tt) (λ c. c .match .keys1) (λ c. c .match .keys2) (λ c. c .before .before .before .before .begin .kept .1 .1 .0 ∙ c .before .before .before .before .before .before .before .loop .inv .2) (rounds-returns t)
-    (rounds-read-stretch-requires t) (λ c. c .match2 .keys1) (λ c. c .match2 .keys2) (λ c. c .before .before .before .before .read-stretch .kept .1 .1 .1 .1 .1 .1 .1 .1 .0 ∙ c .before .before .before .before .before .before .before .before .before .before .before .begin .kept .1 .1 .0 ∙ c .before .before .before .before .before .before .before .before .before .before .before .before .before .before .loop .inv .2) (rounds-returns-2 t)
+    (λ c. (refl, refl, refl)) (λ c κs. tt) (λ c. c .match .keys1) (λ c. c .match .keys2) (λ c. c .before .before .before .before .begin .kept .1 .1 .1 .0 ∙ c .before .before .before .before .before .before .before .loop .inv .2) (rounds-returns t)
+    (rounds-read-stretch-requires t) (λ c. c .match2 .keys1) (λ c. c .match2 .keys2) (λ c. c .before .before .before .before .read-stretch .kept .1 .1 .1 .1 .1 .1 .1 .1 .0 ∙ c .before .before .before .before .before .before .before .before .before .before .before .begin .kept .1 .1 .1 .0 ∙ c .before .before .before .before .before .before .before .before .before .before .before .before .before .before .loop .inv .2) (rounds-returns-2 t)
     (λ c. rounds-went t (c .before) .up) (λ c. rounds-went t (c .before) .inside) (λ c. rounds-went t (c .before) .inside) (λ c. le-refl _)
     (λ c. c .before .before .before .before .before .before .before .before .before .before .before .before .before .before .before .loop-test .taken) (λ c. less (c .before .before .before .before .before .before .before .before .before .before .before .before .before .before .before .loop-test .taken)) (rounds-loop-again t) (λ c. c .before .loop .inv .2) (rounds-returns-3 t))
     (λ t.

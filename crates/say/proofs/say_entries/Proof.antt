@@ -31,6 +31,10 @@ second-requires : tie.Need-second-requires Inv-loop μ-loop
 unfolding roomOf
 second-requires c κs = omega arith
 
+place-requires : tie.Need-place-requires Inv-loop μ-loop
+unfolding roomOf
+place-requires c κs = omega arith
+
 say-entry-requires : tie.Need-say-entry-requires Inv-loop μ-loop
 say-entry-requires c κs = search needs
 
@@ -57,6 +61,7 @@ say-entries-spec =
     returns
     first-requires
     second-requires
+    place-requires
     say-entry-requires
     add-i
     loop-less

@@ -18,10 +18,12 @@ use Rattle.listing.proofs.entries.span_of.Reads as span-of-reads
 use Rattle.listing.proofs.names.say_kind.Reads as say-kind-reads
 use Rattle.listing.proofs.names.say_position.Reads as say-position-reads
 use Rattle.listing.proofs.parts.child.Reads as child-reads
+use Rattle.listing.proofs.entries.say_own.Reads as say-own-reads
 use Rattle.listing.proofs.value.say_value.Reads as say-value-reads
 use Rattle.say.proofs.indent.Reads as indent-reads
 use Rattle.say.proofs.say.Reads as say-reads
 use Rattle.table.proofs.child_count.Reads as child-count-reads
+use Rattle.wire.specs.Answers.{roomOf}
 use Rattle.entry.proofs.first.Reads as first-reads
 use Rattle.entry.proofs.second.Reads as second-reads
 use Rattle.table.proofs.kind_at.Reads as kind-at-reads
@@ -61,7 +63,7 @@ show-rounds-below t =
     and 3 show-rounds-kinds.ps (falls 3 show-rounds-kinds.ps _<_ μ-show-rounds t) show-rounds.Pre
 
 abbrev show-item-calls : ℕ → show-item-lts.Claims
-show-item-calls t = (kind-at-reads.Asked, kind-at-reads.Learnt, child-count-reads.Asked, child-count-reads.Learnt, first-reads.Asked, first-reads.Learnt, second-reads.Asked, second-reads.Learnt, say-kind-reads.Asked, say-kind-reads.Learnt, say-value-reads.Asked, say-value-reads.Learnt, say-reads.Asked, say-reads.Learnt, span-of-reads.Asked, span-of-reads.Learnt, show-rounds-below t, show-rounds.Post)
+show-item-calls t = (kind-at-reads.Asked, kind-at-reads.Learnt, child-count-reads.Asked, child-count-reads.Learnt, first-reads.Asked, first-reads.Learnt, second-reads.Asked, second-reads.Learnt, say-kind-reads.Asked, say-kind-reads.Learnt, say-value-reads.Asked, say-value-reads.Learnt, say-own-reads.Asked, say-own-reads.Learnt, say-reads.Asked, say-reads.Learnt, span-of-reads.Asked, span-of-reads.Learnt, show-rounds-below t, show-rounds.Post)
 
 abbrev show-round-calls : ℕ → show-round-lts.Claims
 show-round-calls t = (kind-at-reads.Asked, kind-at-reads.Learnt, indent-reads.Asked, indent-reads.Learnt, say-position-reads.Asked, say-position-reads.Learnt, say-reads.Asked, say-reads.Learnt, child-reads.Asked, child-reads.Learnt, show-item-below t, show-item.Post)
@@ -87,6 +89,9 @@ show-item-say-kind-requires t c κs = search needs
 show-item-say-value-requires : (t : ℕ) → show-item-lts.Need-say-value-requires (show-item-calls t) (show-item-at t) show-item.Post
 show-item-say-value-requires t c κs = search needs
 
+show-item-say-own-requires : (t : ℕ) → show-item-lts.Need-say-own-requires (show-item-calls t) (show-item-at t) show-item.Post
+show-item-say-own-requires t c κs = search needs
+
 show-item-slice-aggregate-say : (t : ℕ) → show-item-lts.Need-slice-aggregate-say (show-item-calls t) (show-item-at t) show-item.Post
 show-item-slice-aggregate-say t c = search needs
 
@@ -100,19 +105,20 @@ show-item-add-show-rounds : (t : ℕ) → show-item-lts.Need-add-show-rounds (sh
 show-item-add-show-rounds t c = search needs
 
 show-item-add-show-rounds-2 : (t : ℕ) → show-item-lts.Need-add-show-rounds-2 (show-item-calls t) (show-item-at t) show-item.Post
-show-item-add-show-rounds-2 t c = search needs
+unfolding roomOf
+show-item-add-show-rounds-2 t c = let s = c .before .before .before .before .before .before .before .before .before .before .before .before .before in omega (arith, s .pre .1 .1 .1 .0, s .pre .1 .1 .1 .1, s .good .1 .1 .1 .1 .0 .1)
 
 show-item-show-rounds-requires : (t : ℕ) → show-item-lts.Need-show-rounds-requires (show-item-calls t) (show-item-at t) show-item.Post
-show-item-show-rounds-requires t c κs = let p = c .before .before .before .before .before .before .before .before .before .before .before .before .pre in (search needs, (p .1 .0, search needs))
+show-item-show-rounds-requires t c κs = let p = c .before .before .before .before .before .before .before .before .before .before .before .before .before .pre in (search needs, (p .1 .0, search needs))
 
 show-item-returns : (t : ℕ) → show-item-lts.Need-returns (show-item-calls t) (show-item-at t) show-item.Post
 show-item-returns t c = search needs
 
 abbrev show-round-Inv-loop : show-round-lts.InvT-loop
-show-round-Inv-loop table l node from to round depth words count message at number next₀ k₀ t16 next k = next ≤ count
+show-round-Inv-loop table l node from to round depth words made message at number next₀ k₀ t16 next k = next ≤ made .count
 
 abbrev show-round-μ-loop : show-round-lts.MeasureT-loop
-show-round-μ-loop table l node from to round depth words count message at number next₀ k₀ t16 next k = to - k
+show-round-μ-loop table l node from to round depth words made message at number next₀ k₀ t16 next k = to - k
 
 show-round-kind-at-requires : (t : ℕ) → show-round-lts.Need-kind-at-requires (show-round-calls t) (show-round-at t) show-round.Post show-round-Inv-loop show-round-μ-loop
 show-round-kind-at-requires t c κs = search needs
@@ -139,7 +145,7 @@ show-round-child-requires : (t : ℕ) → show-round-lts.Need-child-requires (sh
 show-round-child-requires t c κs = search needs
 
 show-round-show-item-requires : (t : ℕ) → show-round-lts.Need-show-item-requires (show-round-calls t) (show-round-at t) show-round.Post show-round-Inv-loop show-round-μ-loop
-show-round-show-item-requires t c κs = let p = c .before .before .before .before .before .before .before .before .before .before .before .before .pre in (search needs, (p .1 .0, search needs))
+show-round-show-item-requires t c κs = let p = c .before .before .before .before .before .before .before .before .before .before .before .before .before .pre in (search needs, (p .1 .0, search needs))
 
 show-round-add-k : (t : ℕ) → show-round-lts.Need-add-k (show-round-calls t) (show-round-at t) show-round.Post show-round-Inv-loop show-round-μ-loop
 show-round-add-k t c = search needs
@@ -154,10 +160,10 @@ show-round-returns-2 : (t : ℕ) → show-round-lts.Need-returns-2 (show-round-c
 show-round-returns-2 t c = search needs
 
 abbrev show-rounds-Inv-loop : show-rounds-lts.InvT-loop
-show-rounds-Inv-loop table l node way depth words count message at next₀ round₀ next round = next ≤ count
+show-rounds-Inv-loop table l node way depth words made message at next₀ round₀ next round = next ≤ made .count
 
 abbrev show-rounds-μ-loop : show-rounds-lts.MeasureT-loop
-show-rounds-μ-loop table l node way depth words count message at next₀ round₀ next round = way .rounds - round
+show-rounds-μ-loop table l node way depth words made message at next₀ round₀ next round = way .rounds - round
 
 show-rounds-loop-holds : (t : ℕ) → show-rounds-lts.Need-loop-holds (show-rounds-calls t) (show-rounds-at t) show-rounds.Post show-rounds-Inv-loop show-rounds-μ-loop
 show-rounds-loop-holds t c = search needs
@@ -173,7 +179,7 @@ show-rounds-returns :
 show-rounds-returns t c = search needs
 
 show-rounds-show-round-requires : (t : ℕ) → show-rounds-lts.Need-show-round-requires (show-rounds-calls t) (show-rounds-at t) show-rounds.Post show-rounds-Inv-loop show-rounds-μ-loop
-show-rounds-show-round-requires t c κs = let p = c .before .before .before .before .before .before .before .pre in (search needs, (p .1 .0, search needs))
+show-rounds-show-round-requires t c κs = let p = c .before .before .before .before .before .before .before .before .pre in (search needs, (p .1 .0, search needs))
 
 show-rounds-add-round : (t : ℕ) → show-rounds-lts.Need-add-round (show-rounds-calls t) (show-rounds-at t) show-rounds.Post show-rounds-Inv-loop show-rounds-μ-loop
 show-rounds-add-round t c = search needs
@@ -202,6 +208,8 @@ pub +show-item+show-round+show-rounds-spec : {M : Type 1} → statement M
       say-kind-reads.Learnt,
       say-value-reads.Asked,
       say-value-reads.Learnt,
+      say-own-reads.Asked,
+      say-own-reads.Learnt,
       say-reads.Asked,
       say-reads.Learnt,
       span-of-reads.Asked,
@@ -217,6 +225,7 @@ pub +show-item+show-round+show-rounds-spec : {M : Type 1} → statement M
     (show-item-second-requires t)
     (show-item-say-kind-requires t)
     (show-item-say-value-requires t)
+    (show-item-say-own-requires t)
     (show-item-slice-aggregate-say t)
     (show-item-say-requires t)
     (show-item-span-of-requires t)

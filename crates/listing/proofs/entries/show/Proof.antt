@@ -18,8 +18,8 @@ say-bad-requires c κs = search needs
 enum-known-layout : tie.Need-enum-known-layout
 enum-known-layout c = search needs
 
-made-requires : tie.Need-made-requires
-made-requires c κs = search needs
+made-by-requires : tie.Need-made-by-requires
+made-by-requires c κs = search needs
 
 show-entries-requires : tie.Need-show-entries-requires
 show-entries-requires c κs = good-table _ _ (sym (c .before .before .before .before .check .ensures) ∙ c .before .before .layout .given .1)
@@ -41,7 +41,7 @@ show-spec =
     enum-known-why
     say-bad-requires
     enum-known-layout
-    made-requires
+    made-by-requires
     show-entries-requires
     show-end-requires
     returns

@@ -18,7 +18,7 @@ say-requires c κs = search needs
 show-item-requires : tie.Need-show-item-requires
 unfolding roomOf
 show-item-requires c κs =
-    let good = c .before .before .before .before .before .before .before .before .pre in
+    let good = c .before .before .before .before .before .before .before .before .before .before .pre in
     (good, ((good .root-below, omega (arith, good .short-chains _ (good .root-below))), (omega arith, omega arith)))
 
 returns : tie.Need-returns

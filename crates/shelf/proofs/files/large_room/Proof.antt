@@ -7,7 +7,7 @@ use Rattle.shelf.proofs.files.large_room.Statement.{statement}
 use Rattle.shelf.proofs.files.large_room.Tie as tie
 
 returns : tie.Need-returns
-returns c = sym (length-replicate {A = ℕ} 262144 0)
+returns c = sym (length-replicate {A = ℕ} 393216 0)
 
 pub large-room-spec : {M : Type 1} → statement M
 large-room-spec = tie.close (tie.spec returns)

@@ -5,6 +5,7 @@ use crate::tables::{leaf, rooted, with, LEAVES};
 use crate::{Gen, Go};
 use oracle_driver::model::{shortest, W16, W32, W64};
 use oracle_driver::table::*;
+use oracle_driver::WORDS;
 
 impl Gen {
     pub fn edges(&mut self) -> Go {
@@ -60,11 +61,11 @@ impl Gen {
         }
         for bits in [0x7F80_0001u32, 0x7FA0_0000, 0xFFC0_0000, 0x7F80_0000, 0x8000_0000, 0xFFFF_FFFF, 1] {
             self.read(&Table::leaf(F32).file(), &bits.to_le_bytes(), 1)?;
-            self.write(&Table::leaf(F32).file(), &[bits.into(), 0], &[], 4)?;
+            self.write_list(&Table::leaf(F32).file(), &[[bits.into(), 0]], &[], 4)?;
         }
         for bits in [0x7FF0_0000_0000_0001u64, 0x7FF4_0000_0000_0000, 0xFFF8_0000_0000_0000, 1 << 63, u64::MAX] {
             self.read(&Table::leaf(F64).file(), &bits.to_le_bytes(), 1)?;
-            self.write(&Table::leaf(F64).file(), &[bits, 0], &[], 8)?;
+            self.write_list(&Table::leaf(F64).file(), &[[bits, 0]], &[], 8)?;
         }
         let file = Table::leaf(CHAR).file();
         for m in odd_chars() {
@@ -171,9 +172,10 @@ impl Gen {
                 self.read(&file, &shortest(number), 4)?;
                 self.read(&file, &[shortest(number), vec![1, 7]].concat(), 4)?;
                 self.read(&file, &[shortest(number), vec![1, 7]].concat(), 1)?;
-                for list in [&[number, 0][..], &[number, 0, 0, 0], &[number, 0, 1, 0], &[number, 1, 0, 0]] {
-                    self.write(&file, list, &[], 9)?;
+                for second in [&[][..], &[[0, 0]], &[[1, 0]]] {
+                    self.write_list(&file, &[&[[number, 0]], second].concat(), &[], 9)?;
                 }
+                self.write_list(&file, &[[number, 1], [0, 0]], &[], 9)?;
             }
             for m in odd_varints(W32) {
                 self.read(&file, &m, 4)?;
@@ -192,12 +194,12 @@ impl Gen {
         self.read(&deep, &ones, 255)?;
         self.read(&deep, &ones[..255], 256)?;
         self.read(&deep, &[&ones[..254], &[2]].concat(), 256)?;
-        self.write(&deep, &[1, 0].repeat(256), &[], 256)?;
-        self.write(&deep, &[1, 0].repeat(256), &[], 255)?;
-        self.write(&deep, &[1, 0].repeat(255), &[], 256)?;
+        self.write_list(&deep, &[[1, 0]; 256], &[], 256)?;
+        self.write_list(&deep, &[[1, 0]; 256], &[], 255)?;
+        self.write_list(&deep, &[[1, 0]; 255], &[], 256)?;
         self.read(&double, &[], 300)?;
         self.read(&double, &[1, 2], 0)?;
-        self.write(&double, &[0, 0].repeat(300), &[], 0)?;
+        self.write_list(&double, &[[0, 0]; 300], &[], 0)?;
         self.append(&double, &double)?;
         self.append(&deep, &deep)?;
         self.append(&double, &deep)
@@ -213,14 +215,21 @@ impl Gen {
         for kind in LEAVES {
             let file = Table::leaf(kind).file();
             for &w0 in &edges {
-                self.write(&file, &[w0, 0], b"pool", 10)?;
-                self.write(&file, &[w0, 1], b"pool", 10)?;
+                self.write_list(&file, &[[w0, 0]], b"pool", 10)?;
+                self.write_list(&file, &[[w0, 1]], b"pool", 10)?;
             }
-            for list in [&[][..], &[0], &[0, 0, 0], &[0, 0, 0, 0], &[0, 0, 9, 9], &[9, 9, 9]] {
-                self.write(&file, list, b"pool", 10)?;
+            // An entry that fits and one that doesn't, with up to four words behind them.
+            for first in [&[][..], &[0, 0, 0], &[9, 9, 9]] {
+                for behind in [&[][..], &[0], &[9], &[0, 0], &[9, 9], &[0, 0, 0], &[9, 9, 9], &[0, 0, 0, 0]] {
+                    self.write(&file, &[first, behind].concat(), b"pool", 10)?;
+                }
+            }
+            let second = u64::from(kind == STR || kind == BYTES);
+            for place in [0, 1, 1 << 32, u64::MAX] {
+                self.write(&file, &[1, second, place], b"pool", 10)?;
             }
             for out_len in 0..=11 {
-                self.write(&file, &[1, u64::from(kind == STR || kind == BYTES)], b"pool", out_len)?;
+                self.write_list(&file, &[[1, second]], b"pool", out_len)?;
             }
         }
         for kind in [STR, BYTES] {
@@ -241,44 +250,45 @@ impl Gen {
                 (3, 1),
             ] {
                 for pool in [&b"pool"[..], b"", b"p\xC3\xA9l", b"po\xFFl"] {
-                    self.write(&file, &[o, l], pool, 6)?;
+                    self.write_list(&file, &[[o, l]], pool, 6)?;
                 }
             }
             for text in odd_texts() {
-                self.write(&file, &[1, text.len() as u64], &[&b"\x80"[..], &text, b"\xFF"].concat(), 64)?;
+                self.write_list(&file, &[[1, text.len() as u64]], &[&b"\x80"[..], &text, b"\xFF"].concat(), 64)?;
             }
             let long: Vec<u8> = (0..300).map(|i| b'a' + (i % 26) as u8).collect();
             for len in [127u64, 128, 129, 255, 256, 300] {
                 for out_len in [len, len + 1, len + 2] {
-                    self.write(&file, &[0, len], &long, out_len as usize)?;
+                    self.write_list(&file, &[[0, len]], &long, out_len as usize)?;
                 }
             }
         }
         for (t, lists) in [
             (
                 rooted(vec![leaf(UNIT), with(SEQ, &[0])]),
-                [vec![u64::MAX, 0], vec![u64::MAX, 0, 0, 0], vec![2, 0, 0, 0, 0, 0], vec![1, 0, 0, 0, 0, 0]],
+                [vec![u64::MAX], vec![u64::MAX, 0], vec![2, 0, 0], vec![1, 0, 0]],
             ),
             (
                 rooted(vec![leaf(UNIT), with(MAP, &[0, 0])]),
-                [vec![u64::MAX, 0], vec![1, 0, 0, 0], vec![1, 0, 0, 0, 0, 0], vec![1, 0, 0, 0, 0, 0, 0, 0]],
+                [vec![u64::MAX], vec![1, 0], vec![1, 0, 0], vec![1, 0, 0, 0]],
             ),
-            (
-                rooted(vec![leaf(BOOL), with(OPTION, &[0])]),
-                [vec![0, 0], vec![1, 0], vec![0, 0, 1, 0], vec![1, 0, 2, 0]],
-            ),
-            (rooted(vec![leaf(STRUCT)]), [vec![0, 0], vec![1, 0], vec![0, 1], vec![0, 0, 0, 0]]),
+            (rooted(vec![leaf(BOOL), with(OPTION, &[0])]), [vec![0], vec![1], vec![0, 1], vec![1, 2]]),
+            (rooted(vec![leaf(STRUCT)]), [vec![0], vec![1], vec![0, 0], vec![0, 0, 0]]),
         ] {
             let file = t.file();
             for list in lists {
+                let items: Vec<[u64; 2]> = list.iter().map(|&w0| [w0, 0]).collect();
                 for out_len in [0, 1, 2, 9] {
-                    self.write(&file, &list, &[], out_len)?;
+                    self.write_list(&file, &items, &[], out_len)?;
                 }
-                self.write(&file, &list[..list.len() - 1], &[], 9)?;
-                self.write(&file, &[list, vec![0]].concat(), &[], 9)?;
+                let words = self.placed(&items);
+                for fewer in 1..WORDS {
+                    self.write(&file, &words[..words.len() - fewer], &[], 9)?;
+                    self.write(&file, &[&words[..], &vec![0; fewer]].concat(), &[], 9)?;
+                }
             }
         }
-        Ok(())
+        self.write_list(&Table::leaf(STRUCT).file(), &[[0, 1]], &[], 9)
     }
 
     /// Tables at the edge of good, each way to be bad, and what comes first.
@@ -297,6 +307,7 @@ impl Gen {
         let file = t.file();
         let ask = |g: &mut Gen, f: &[u8]| -> Go {
             g.read(f, &[1, 0, 0, 0], 8)?;
+            g.write_list(f, &[[0, 0], [0, 0]], &[], 4)?;
             g.write(f, &[0, 0, 0, 0], &[], 4)?;
             g.append(f, &file)?;
             g.append(&file, f)?;

@@ -8,6 +8,7 @@ mod tables;
 
 use oracle_driver::proto::{hex, words_text};
 use oracle_driver::rng::Rng;
+use oracle_driver::WORDS;
 use std::io::{self, BufWriter, Write};
 
 fn main() {
@@ -16,9 +17,9 @@ fn main() {
         eprintln!("usage: gen SEED COUNT");
         std::process::exit(2)
     };
-    let mut g = Gen { rng: Rng(seed), left: count, out: BufWriter::new(io::stdout().lock()) };
+    let mut g = Gen { rng: Rng(0), left: count, out: BufWriter::new(io::stdout().lock()) };
     // Err means: enough lines, or nobody listens any more.
-    let _ = g.all();
+    let _ = g.all(seed);
     let _ = g.out.flush();
 }
 
@@ -40,8 +41,15 @@ impl Gen {
         self.left -= 1;
         writeln!(self.out, "{text}").map_err(|_| Enough)
     }
+    /// Into a store with room for so many entries, and up to two words more.
     fn read(&mut self, file: &[u8], message: &[u8], room: u64) -> Go {
-        self.line(format_args!("R {} {} {room:x}", hex(file), hex(message)))
+        let words = WORDS as u64 * room + self.rng.below(WORDS) as u64;
+        self.line(format_args!("R {} {} {words:x}", hex(file), hex(message)))
+    }
+    /// A list of items' two words each; the third may be anything.
+    fn write_list(&mut self, file: &[u8], items: &[[u64; 2]], pool: &[u8], out_len: usize) -> Go {
+        let words = self.placed(items);
+        self.write(file, &words, pool, out_len)
     }
     fn write(&mut self, file: &[u8], words: &[u64], pool: &[u8], out_len: usize) -> Go {
         self.line(format_args!("W {} {} {} {out_len:x}", hex(file), words_text(words), hex(pool)))
@@ -56,8 +64,23 @@ impl Gen {
         self.line(format_args!("T {kind:x} {} {place:x}", hex(message)))
     }
 
-    fn all(&mut self) -> Go {
+    /// The words of entries that say of their items whatever place.
+    fn placed(&mut self, items: &[[u64; 2]]) -> Vec<u64> {
+        items.iter().flat_map(|&[w0, w1]| [w0, w1, self.any_place()]).collect()
+    }
+    fn any_place(&mut self) -> u64 {
+        match self.rng.below(4) {
+            0 => 0,
+            1 => self.rng.below(300) as u64,
+            2 => u64::MAX,
+            _ => self.rng.word(),
+        }
+    }
+
+    /// The edge cases are the same for every seed.
+    fn all(&mut self, seed: u64) -> Go {
         self.edges()?;
+        self.rng = Rng(seed);
         loop {
             self.round()?;
         }

@@ -5,7 +5,7 @@ use crate::tables::{fewest, leaf, LEAVES};
 use crate::{Gen, Go};
 use oracle_driver::model::{self, encode_char, shortest};
 use oracle_driver::table::*;
-use oracle_driver::{write, Entry};
+use oracle_driver::{write, Entry, WORDS};
 
 impl Gen {
     pub fn round(&mut self) -> Go {
@@ -114,10 +114,10 @@ impl Gen {
         let full = entries.len() > 60;
         let n = &t.nodes[node];
         let at = entries.len();
-        entries.push([0, 0]);
+        entries.push([0, 0, self.any_place()]);
         let signed = |x: u64, bits: u32| ((x << (64 - bits)) as i64 >> (64 - bits)) as u64;
         let small = |k: usize| min[k] < 40;
-        entries[at] = match n.kind {
+        let [w0, w1] = match n.kind {
             BOOL => [self.rng.below(2) as u64, 0],
             I8 => [signed(self.integer(8), 8), 0],
             I16 | 20 | 26 => [signed(self.integer(16), 16), 0],
@@ -157,7 +157,7 @@ impl Gen {
             }
             _ => unreachable!(),
         };
-        let w0 = entries[at][0];
+        entries[at][..2].copy_from_slice(&[w0, w1]);
         match n.kind {
             OPTION if w0 == 0 => {}
             SEQ | MAP => {
@@ -252,18 +252,23 @@ impl Gen {
             let keep = self.rng.below(words.len());
             self.write(file, &words[..keep], pool, out)?;
         }
-        for extra in [&[0][..], &[0, 0], &[1, 2], &[0, 0, 0]] {
+        for extra in [&[0][..], &[0, 0], &[0, 0, 0], &[1, 2, 3], &[0, 0, 0, 0]] {
             self.write(file, &[&words, extra].concat(), pool, out)?;
         }
+        // Two words an entry, which are too few; and other places.
+        let pairs: Vec<u64> = entries.iter().flat_map(|e| [e[0], e[1]]).collect();
+        self.write(file, &pairs, pool, out)?;
+        let items: Vec<[u64; 2]> = entries.iter().map(|e| [e[0], e[1]]).collect();
+        self.write_list(file, &items, pool, size)?;
         for _ in 0..entries.len().min(16) {
             let mut w = words.clone();
             let e = self.rng.below(entries.len());
             if self.rng.chance(3) {
-                w[2 * e + 1] =
+                w[WORDS * e + 1] =
                     *self.rng.pick(&[0, 1, 2, 4, 1 << 32, u64::MAX, pool.len() as u64, pool.len() as u64 + 1]);
             } else {
-                let x = w[2 * e];
-                w[2 * e] = match self.rng.below(6) {
+                let x = w[WORDS * e];
+                w[WORDS * e] = match self.rng.below(6) {
                     0 => x.wrapping_add(1),
                     1 => x.wrapping_sub(1),
                     2 => x ^ 1 << self.rng.below(64),
@@ -329,7 +334,8 @@ impl Gen {
             let m = self.odd_bytes(6);
             self.read(&f, &m, 6)?;
             if self.rng.chance(4) {
-                self.write(&f, &[0, 0, 0, 0], b"ab", 4)?;
+                let words = vec![0; self.rng.below(8)];
+                self.write(&f, &words, b"ab", 4)?;
             }
             match self.rng.below(6) {
                 0 => self.append(&f, file)?,

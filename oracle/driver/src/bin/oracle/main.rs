@@ -94,17 +94,17 @@ fn cases() -> bool {
     let zeros = "00".repeat(256);
     let ten = "0102030405060708090a";
     let [u16t, i16t, chart] = [U16, I16, CHAR].map(|kind| proto::hex(&Table::leaf(kind).file()));
-    let values = "0,0 12c,0 5,0 fffffffffffffffe,0";
+    let values = "0,0,0 12c,0,0 5,0,2 fffffffffffffffe,0,3";
     let list = [
         ("1", format!("R {T} ac020503 10"), format!("0 4 4 | {values} | -")),
         ("2", format!("R {T} ac02050307 10"), format!("0 4 4 | {values} | 07")),
-        ("3", format!("R {T} ac0205 10"), "3 3 3 | 0,0 12c,0 5,0 | -".into()),
-        ("4", format!("R {u16t} ffff03 10"), "0 3 1 | ffff,0 | -".into()),
+        ("3", format!("R {T} ac0205 10"), "3 3 3 | 0,0,0 12c,0,0 5,0,2 | -".into()),
+        ("4", format!("R {u16t} ffff03 10"), "0 3 1 | ffff,0,0 | -".into()),
         ("5", format!("R {u16t} 808004 10"), "4 0 0 | - | -".into()),
-        ("6", format!("R {u16t} 8000 10"), "0 2 1 | 0,0 | -".into()),
+        ("6", format!("R {u16t} 8000 10"), "0 2 1 | 0,0,0 | -".into()),
         ("7", format!("R {u16t} 8080 10"), "3 0 0 | - | -".into()),
-        ("8", format!("W {i16t} ffffffffffff8000,0 - 10"), "0 3 | ffff03".into()),
-        ("9", format!("R {chart} 026162 10"), "0 3 1 | 61,0 | -".into()),
+        ("8", format!("W {i16t} ffffffffffff8000,0,0 - 10"), "0 3 | ffff03".into()),
+        ("9", format!("R {chart} 026162 10"), "0 3 1 | 61,0,0 | -".into()),
         ("10", format!("R {chart} 05 10"), "6 0 0 | - | -".into()),
         ("11", format!("R {chart} 00 10"), "6 0 0 | - | -".into()),
         ("12 (document)", format!("F fa {zeros} {ten}"), format!("21 0 | 0708090a | - | {zeros}")),

@@ -2,7 +2,7 @@
 
 use oracle_driver::rng::Rng;
 use oracle_driver::table::{Table, CHAR};
-use oracle_driver::{feed, model, read};
+use oracle_driver::{feed, model, read, WORDS};
 use postcard::accumulator::{CobsAccumulator, FeedResult};
 
 pub fn run() -> bool {
@@ -39,7 +39,7 @@ pub fn run() -> bool {
             for x in 0..1u32 << (8 * have) {
                 let m = [&[len][..], &x.to_be_bytes()[4 - have as usize..]].concat();
                 tried += 1;
-                bad += u64::from(read::read(&char_file, &m, 1) != model::read(&char_file, &m, 1));
+                bad += u64::from(read::read(&char_file, &m, WORDS) != model::read(&char_file, &m, WORDS));
             }
         }
     }
@@ -56,7 +56,7 @@ pub fn run() -> bool {
                     continue;
                 }
                 tried += 1;
-                bad += u64::from(read::read(&file, m, 1) != model::read(&file, m, 1));
+                bad += u64::from(read::read(&file, m, WORDS) != model::read(&file, m, WORDS));
             }
         }
     }

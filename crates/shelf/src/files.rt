@@ -7,15 +7,6 @@ ghost use lib.ListN.{length};
 ghost use Rattle.wire.specs.Answers.{wordsPer};
 ghost use Rattle.io.specs.Counts.{Counts};
 
-// The room for a message, a stream, a value list, a pool or an output: 24 bytes for each of 16,384 entries.
-pub const LARGE: usize = 393216;
-
-pub fn large_room() -> [u8; LARGE]
-    ensures { λ r. ⌜ 393216 ≡ length r ⌝ }
-{
-    [0; LARGE]
-}
-
 // The words of 16,384 entries, for a store or a value list.
 const WORDS: usize = 16384 * entry::WORDS;
 
@@ -23,6 +14,15 @@ pub fn words_room() -> [u64; WORDS]
     ensures { λ r. ⌜ 16384 * wordsPer ≡ length r ⌝ }
 {
     [0; WORDS]
+}
+
+// The room for a message, a stream, a pool, an output or the file of a value list: as many bytes as those words have.
+pub const LARGE: usize = 8 * WORDS;
+
+pub fn large_room() -> [u8; LARGE]
+    ensures { λ r. ⌜ 8 * (16384 * wordsPer) ≡ length r ⌝ }
+{
+    [0; LARGE]
 }
 
 // Whether a file is there whole, and how many bytes it has.

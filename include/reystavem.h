@@ -1,9 +1,19 @@
 /* Reystavem: reading and writing messages by a schema table, as a static library (libexports.a).
  *
- * Every call may be given any bytes. It returns document 01's number: 0 is done, 1 to 12 a refusal,
- * 20 to 24 a feed's answer. A pointer with its length is a lent slice: it must be valid for that
- * length and, where it isn't const, overlap no other. A length may be 0; the pointer is then not
- * read, but mustn't be null.
+ * Every call may be given any bytes. It returns the number that the documents give its answer:
+ *
+ *    0  done
+ *    1  the table's trailer isn't good            7  a text isn't UTF-8
+ *    2  a record of the table isn't good          8  an option is neither 0 nor 1
+ *    3  the message ends inside an item           9  a variant's number isn't in the table
+ *    4  a varint is too long or too large        10  the store has no room for an item's entry
+ *    5  a bool is neither 0 nor 1                11  a value list doesn't fit the table
+ *    6  a char isn't one                         12  the output is too short
+ *   16  not shortest: an item's bytes aren't the ones that a writer writes for its value
+ *   20 to 24, a feed's answers: consumed, over-full, bad frame, frame, bad state
+ *
+ * A pointer with its length is a lent slice: it must be valid for that length and, where it isn't
+ * const, overlap no other. A length may be 0; the pointer is then not read, but mustn't be null.
  */
 #ifndef REYSTAVEM_H
 #define REYSTAVEM_H
@@ -27,6 +37,15 @@ uint64_t reystavem_read(const uint8_t *table, size_t table_len,
                         const uint8_t *message, size_t message_len,
                         uint64_t *store, size_t store_words,
                         uint64_t *place, uint64_t *count);
+
+/* The same, but an item is refused, 16, if its own bytes aren't the shortest that say its value: a
+ * padded varint (a number, a count, a length, a variant's number), or a char whose length isn't its
+ * own. So of two messages read strictly, those with the same values have the same bytes. An item's
+ * other refusals come before 16; the refused item makes no entry, and its inside isn't looked at. */
+uint64_t reystavem_read_strict(const uint8_t *table, size_t table_len,
+                               const uint8_t *message, size_t message_len,
+                               uint64_t *store, size_t store_words,
+                               uint64_t *place, uint64_t *count);
 
 /* Writes a value list, three words an entry, whose texts and bytes stand in the pool; an entry's third
  * word isn't looked at. *place: bytes written, or the place of the refusal. On a refusal the output is

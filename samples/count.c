@@ -1,4 +1,5 @@
-/* Reads samples/count-end.message by samples/count.table through the static library, and writes what came back. */
+/* Reads samples/count-end.message by samples/count.table through the static library, and writes what came back. Then
+ * reads strictly what a till wrote that pads its varints: refused, so that equal counts have equal bytes. */
 #include <inttypes.h>
 #include <stdio.h>
 
@@ -24,5 +25,9 @@ int main(void)
     if (answer == 0 && count == 4)
         printf("store %" PRIu64 ", product %" PRIu64 ", count %" PRId64 " at byte %" PRIu64 "\n", store[3], store[6],
                (int64_t)store[9], store[11]);
+
+    message_len = load("samples/count-padded.message", message, sizeof message);
+    answer = reystavem_read_strict(table, table_len, message, message_len, store, 3 * 64, &place, &count);
+    printf("padded, read strictly: answer %" PRIu64 ", place %" PRIu64 ", entries %" PRIu64 "\n", answer, place, count);
     return 0;
 }

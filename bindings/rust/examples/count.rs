@@ -1,4 +1,5 @@
-//! Reads a message by a table, both from files, and prints its entries, each with its own bytes: `count TABLE MESSAGE`.
+//! Reads a message by a table, both from files, and prints its entries, each with its own bytes, and whether each is
+//! spelled the shortest way: `count TABLE MESSAGE`.
 use std::{env, fs};
 
 fn main() {
@@ -21,5 +22,9 @@ fn main() {
             println!("rest {:02x?}", read.rest);
         }
         Err(refused) => println!("{refused:?}"),
+    }
+    match reystavem::read_strict(&table, &message, &mut store) {
+        Ok(_) => println!("read strictly: the same"),
+        Err(strict) => println!("read strictly: {:?} at {}", strict.refused.why, strict.refused.place),
     }
 }

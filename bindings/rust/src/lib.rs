@@ -1,7 +1,7 @@
 //! Reads and writes messages by a schema table, through Reystavem's proved static library.
 //!
 //! Every function may be given any bytes: it answers, or refuses with the number and the place that
-//! document 01 fixes. Nothing here panics on what a message or a table holds.
+//! the documents fix. Nothing here panics on what a message or a table holds.
 //!
 //! ```
 //! # let table = reystavem::samples::TABLE_T;
@@ -17,6 +17,16 @@ mod ffi {
     extern "C" {
         pub fn reystavem_check(table: *const u8, table_len: usize, place: *mut u64) -> u64;
         pub fn reystavem_read(
+            table: *const u8,
+            table_len: usize,
+            message: *const u8,
+            message_len: usize,
+            store: *mut u64,
+            store_words: usize,
+            place: *mut u64,
+            count: *mut u64,
+        ) -> u64;
+        pub fn reystavem_read_strict(
             table: *const u8,
             table_len: usize,
             message: *const u8,
@@ -69,7 +79,7 @@ mod ffi {
     }
 }
 
-/// Why a call refuses, with document 01's number.
+/// Why a call refuses, with the number that the documents give it.
 #[derive(Clone, Copy, Debug, PartialEq, Eq)]
 #[repr(u8)]
 pub enum Why {
@@ -97,6 +107,8 @@ pub enum Why {
     Values = 11,
     /// The output is too short.
     Full = 12,
+    /// An item's bytes aren't the ones that a writer writes for its value; strict reading only.
+    NotShortest = 16,
 }
 
 impl Why {
@@ -114,6 +126,7 @@ impl Why {
             10 => Why::Room,
             11 => Why::Values,
             12 => Why::Full,
+            16 => Why::NotShortest,
             _ => unreachable!("the library's contract has no other number"),
         }
     }
@@ -182,10 +195,35 @@ pub struct ReadRefused {
 /// down. Words behind the entries stay as they were.
 #[inline]
 pub fn read<'m>(table: &[u8], message: &'m [u8], store: &mut [u64]) -> Result<Read<'m>, ReadRefused> {
+    read_by(ffi::reystavem_read, table, message, store)
+}
+
+/// Reads as `read` does, but refuses an item whose own bytes aren't the shortest that say its value: a padded varint
+/// (a number, a count, a length, a variant's number), or a char whose length isn't its own. So of two messages read
+/// strictly, those with the same values have the same bytes. An item's other refusals come first, and its inside isn't
+/// looked at.
+#[inline]
+pub fn read_strict<'m>(table: &[u8], message: &'m [u8], store: &mut [u64]) -> Result<Read<'m>, ReadRefused> {
+    read_by(ffi::reystavem_read_strict, table, message, store)
+}
+
+type Reader = unsafe extern "C" fn(
+    table: *const u8,
+    table_len: usize,
+    message: *const u8,
+    message_len: usize,
+    store: *mut u64,
+    store_words: usize,
+    place: *mut u64,
+    count: *mut u64,
+) -> u64;
+
+#[inline]
+fn read_by<'m>(reader: Reader, table: &[u8], message: &'m [u8], store: &mut [u64]) -> Result<Read<'m>, ReadRefused> {
     let (mut place, mut count) = (0, 0);
     // SAFETY: each slice is lent with its own length; `store` is borrowed for us alone.
     let number = unsafe {
-        ffi::reystavem_read(
+        reader(
             table.as_ptr(),
             table.len(),
             message.as_ptr(),

@@ -60,6 +60,44 @@ fn a_message_that_ends_inside() {
 }
 
 #[test]
+fn a_padded_message_is_refused_by_a_strict_reading_only() {
+    // Store 300 in three bytes instead of two, and the product in two instead of one.
+    let (store_padded, product_padded) = ([0xac, 0x82, 0x00, 0x05, 0x03], [0xac, 0x02, 0x85, 0x00, 0x03, 0x07]);
+    for (message, place, count) in [(&store_padded[..], 0, 1), (&product_padded, 2, 2)] {
+        let mut store = [7; 14];
+        assert_eq!(read(TABLE_T, message, &mut store).unwrap().count, 4);
+        let mut store = [7; 14];
+        let refused = Refused { why: Why::NotShortest, place };
+        assert_eq!(read_strict(TABLE_T, message, &mut store), Err(ReadRefused { refused, count }));
+        assert_eq!(store[..WORDS * count], [0, 0, 0, 300, 0, 0][..WORDS * count]);
+        assert_eq!(store[WORDS * count..], [7; 14][WORDS * count..]);
+    }
+    let mut store = [7; 14];
+    let got = read_strict(TABLE_T, &[0xac, 0x02, 0x05, 0x03, 0x07], &mut store).unwrap();
+    assert_eq!(got, Read { count: 4, rest: &[0x07] });
+    assert_eq!(store, [0, 0, 0, 300, 0, 0, 5, 0, 2, MINUS_TWO, 0, 3, 7, 7]);
+}
+
+#[test]
+fn a_char_has_its_own_length_and_other_refusals_come_first() {
+    let strictly = |kind: u8, message: &[u8], words: usize| {
+        let mut store = [7; 3];
+        match read_strict(&leaf(kind), message, &mut store[..words]) {
+            Ok(read) => Ok(read.rest.len()),
+            Err(refused) => Err(refused.refused.why),
+        }
+    };
+    assert_eq!(strictly(11, &[0x01, 0x61], 3), Ok(0));
+    assert_eq!(strictly(11, &[0x02, 0x61, 0x62], 3), Err(Why::NotShortest));
+    assert_eq!(strictly(6, &[0x00], 3), Ok(0));
+    assert_eq!(strictly(6, &[0x80, 0x00], 3), Err(Why::NotShortest));
+    assert_eq!(strictly(6, &[0x80, 0x00], 2), Err(Why::Room));
+    assert_eq!(strictly(12, &[0x81, 0x00, 0x61], 3), Err(Why::NotShortest));
+    assert_eq!(strictly(12, &[0x81, 0x00], 3), Err(Why::End));
+    assert_eq!(strictly(12, &[0x81, 0x00, 0xff], 3), Err(Why::Utf8));
+}
+
+#[test]
 fn the_shortest_form_is_written() {
     let mut out = [7; 4];
     let words = [u64::MAX - 32767, 0, 0];

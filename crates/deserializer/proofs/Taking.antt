@@ -8,6 +8,7 @@ use native.Mathlib.Omega.{arith}
 use lib.ListN.{length, take, drop, length-drop}
 use borrow.Author.Tests.{lt-ltb, le-ltb, le-leb, lt-leb}
 use Rattle.wire.specs.declared.Refusal.the-variants.{End, Record}
+use Rattle.wire.specs.declared.Own.{Own}
 use Rattle.wire.specs.declared.Item.{Item}
 use Rattle.wire.specs.declared.Item.the-variants.{Took, Refused}
 use Rattle.wire.specs.declared.TakeAnswer.the-variants.{Refused as NotTaken}
@@ -70,9 +71,9 @@ module _ (k p : ℕ) (message : List ℕ) where
         unfolding takes pick
         inside q = rw (m, le-leb p (length message) h, ← q, e, here)
 
-        pub word : {a b n : ℕ} → r ≡ Took a b n → p + n < 2 ^ 64
-        word {a} {b} {n} q = go _ (head-fits (kindOf k) 0 p (drop p message)) (sym q ∙ e ∙ here)
+        pub word : {own : Own} → r ≡ Took own → p + own .used < 2 ^ 64
+        word {own} q = go _ (head-fits (kindOf k) 0 p (drop p message)) (sym q ∙ e ∙ here)
           where
-            go : (i : Item) → Fits (drop p message) i → Took a b n ≡ i → p + n < 2 ^ 64
-            go (Took c d u) (fits l) same = let v : n ≡ u = cc in omega (arith, length-drop p message)
+            go : (i : Item) → Fits (drop p message) i → Took own ≡ i → p + own .used < 2 ^ 64
+            go (Took got) (fits l) same = let u : own .used ≡ got .used = cc in omega (arith, length-drop p message)
             go (Refused w) f same = let z : _≡_ {A = ℕ} 0 1 = cc in absurd (omega arith)

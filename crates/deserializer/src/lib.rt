@@ -38,15 +38,11 @@ pub fn take_at(kind: u64, message: &[u8], place: usize) -> TakeAnswer
     }
     let got = leaf::take(kind as u8, &message[place..], place);
     match got {
-        Item::Took {
-            first,
-            second,
-            used,
-        } => {
-            let behind = place + used;
+        Item::Took { own } => {
+            let behind = place + own.used;
             TakeAnswer::Done {
-                first,
-                second,
+                first: own.first,
+                second: own.second,
                 at: place,
                 place: behind,
             }

@@ -21,7 +21,7 @@ use Rattle.wire.specs.declared.TakeAnswer.the-variants.{Done as Taken, Refused 
 use Rattle.wire.specs.Reading.{Run, Outcome, reached, refused}
 use Rattle.wire.specs.Answers.{sideNumber, yesNumber, refusalNumber, numbered, done, checkSays, readSays, writeSays, takeSays, askSays, readAnswer, placeAfter, Form}
 use Rattle.laws.specs.Answered.{Reads, Writes}
-use Rattle.exports.specs.Calls.{Told, Read, Wrote, whichOf, yesOf, Asked, firstOf, secondOf, atOf, Took}
+use Rattle.exports.specs.Calls.{Told, countOf, Counted, Read, Wrote, whichOf, yesOf, Asked, firstOf, secondOf, atOf, Took}
 
 -- ---- the check
 
@@ -35,30 +35,27 @@ check-bad e g h = rw (← e, g) (record { number = h; place = refl })
 
 -- ---- reading
 
--- the count that an answer tells is the one that it was made with
-countOf : ReadAnswer → ℕ
-countOf (Done p n) = n
-countOf (NotRead e p n) = n
+pub count-done : {a : ReadAnswer} {p n : ℕ} → a ≡ Done p n → Counted a 0 p n
+unfolding readSays done countOf
+count-done g = rw g (record { told = record { number = refl; place = refl }; count = refl })
 
+pub count-refused : {a : ReadAnswer} {why : Refusal} {p n m : ℕ} → a ≡ NotRead why p n → m ≡ refusalNumber why → Counted a m p n
+unfolding readSays numbered countOf
+count-refused g k = rw g (record { told = record { number = k; place = refl }; count = refl })
+
+-- the count that an answer tells is the one that it was made with
 count-of : (o : Outcome) (n : ℕ) → countOf (readAnswer o n) ≡ n
 unfolding countOf readAnswer
 count-of (reached x) n = refl
-count-of (refused e p) n = refl
+count-of (refused why p) n = refl
 
-module _ {w : Run} {store left : List ℕ} {r : ReadAnswer} (h : Reads w store r left) where
-  said : {a : ReadAnswer} → r ≡ a → readAnswer (w .ends) (length (w .made)) ≡ a
-  said g = sym (h .answered) ∙ g
-
-  counted : {a : ReadAnswer} → r ≡ a → countOf a ≡ length (w .made)
-  counted g = ap countOf (sym (said g)) ∙ count-of (w .ends) (length (w .made))
-
-  pub read-done : {p n : ℕ} → r ≡ Done p n → Read w store 0 p n left
-  unfolding readSays done countOf
-  read-done g = record { told = rw (said g) (record { number = refl; place = refl }); count = counted g; stored = h .stored }
-
-  pub read-refused : {e : Refusal} {p n m : ℕ} → r ≡ NotRead e p n → m ≡ refusalNumber e → Read w store m p n left
-  unfolding readSays numbered countOf
-  read-refused g k = record { told = rw (said g) (record { number = k; place = refl }); count = counted g; stored = h .stored }
+-- a run's answer, as it was told
+pub read-told : {w : Run} {store left : List ℕ} {a : ReadAnswer} → Reads w store a left → {r p n : ℕ} → Counted a r p n → Read w store r p n left
+read-told {w} h c = record {
+  told = rw (h .answered) at (c .told);
+  count = rw (h .answered) at (c .count) ∙ count-of (w .ends) (length (w .made));
+  stored = h .stored;
+}
 
 -- ---- writing
 

@@ -4,6 +4,8 @@ use mathlib.Core.Path.{_≡_}
 use mathlib.Core.List.{List}
 use Prim.Native.Nat.{ℕ, _≤_}
 use lib.ListN.{length, drop}
+use Rattle.wire.specs.declared.ReadAnswer.{ReadAnswer}
+use Rattle.wire.specs.declared.ReadAnswer.the-variants.{Done, Refused as NotRead}
 use Rattle.wire.specs.declared.AskAnswer.{AskAnswer}
 use Rattle.wire.specs.declared.AskAnswer.the-variants.{Says, Refused as NotAsked}
 use Rattle.wire.specs.declared.TakeAnswer.{TakeAnswer}
@@ -16,6 +18,16 @@ use Rattle.accumulator.specs.Feeding.{Lent}
 pub record Told (n : Numbered) (r p : ℕ) : Type 0 where
   pub number : r ≡ n .number
   pub place : p ≡ n .place
+
+-- the entries that an answer says were made
+unfoldable pub countOf : ReadAnswer → ℕ
+countOf (Done p n) = n
+countOf (NotRead why p n) = n
+
+-- the number, the place and the count of a reading's answer
+pub record Counted (a : ReadAnswer) (r p n : ℕ) : Type 0 where
+  pub told : Told (readSays a) r p
+  pub count : n ≡ countOf a
 
 pub record Read (w : Run) (store : List ℕ) (r p n : ℕ) (store′ : List ℕ) : Type 0 where
   pub told : Told (readSays (readAnswer (w .ends) (length (w .made)))) r p

@@ -6,9 +6,9 @@ use wire::TakeAnswer;
 use wire::WriteAnswer;
 ghost use lib.ListN.{length};
 ghost use Rattle.wire.specs.Table.{check};
-ghost use Rattle.wire.specs.Answers.{checkSays, reads, takes, writes, asks};
+ghost use Rattle.wire.specs.Answers.{checkSays, reads, readsStrict, takes, writes, asks};
 ghost use Rattle.accumulator.specs.Feeding.{feedLent};
-ghost use Rattle.exports.specs.Calls.{Told, Read, Wrote, Asked, Fed, Took};
+ghost use Rattle.exports.specs.Calls.{Told, Counted, Read, Wrote, Asked, Fed, Took};
 
 #[no_mangle]
 pub extern "C" fn reystavem_check(table: &[u8], place: &mut u64) -> u64
@@ -27,17 +27,10 @@ pub extern "C" fn reystavem_check(table: &[u8], place: &mut u64) -> u64
     }
 }
 
-#[no_mangle]
-pub extern "C" fn reystavem_read(
-    table: &[u8],
-    message: &[u8],
-    store: &mut [u64],
-    place: &mut u64,
-    count: &mut u64,
-) -> u64
-    ensures { λ r. ⌜ Read (reads (now (table .entry)) (now (message .entry)) (now (store .entry))) (now (store .entry)) r (now (place .exit)) (now (count .exit)) (now (store .exit)) ⌝ }
+// The number of a reading's answer; its place and its count are left in the numbers lent.
+fn tell_read(got: ReadAnswer, place: &mut u64, count: &mut u64) -> u64
+    ensures { λ r. ⌜ Counted got r (now (place .exit)) (now (count .exit)) ⌝ }
 {
-    let got = reader::read(table, message, store);
     match got {
         ReadAnswer::Done {
             place: end,
@@ -57,6 +50,34 @@ pub extern "C" fn reystavem_read(
             numbers::refusal(why)
         }
     }
+}
+
+#[no_mangle]
+pub extern "C" fn reystavem_read(
+    table: &[u8],
+    message: &[u8],
+    store: &mut [u64],
+    place: &mut u64,
+    count: &mut u64,
+) -> u64
+    ensures { λ r. ⌜ Read (reads (now (table .entry)) (now (message .entry)) (now (store .entry))) (now (store .entry)) r (now (place .exit)) (now (count .exit)) (now (store .exit)) ⌝ }
+{
+    let got = reader::read(table, message, store);
+    tell_read(got, place, count)
+}
+
+#[no_mangle]
+pub extern "C" fn reystavem_read_strict(
+    table: &[u8],
+    message: &[u8],
+    store: &mut [u64],
+    place: &mut u64,
+    count: &mut u64,
+) -> u64
+    ensures { λ r. ⌜ Read (readsStrict (now (table .entry)) (now (message .entry)) (now (store .entry))) (now (store .entry)) r (now (place .exit)) (now (count .exit)) (now (store .exit)) ⌝ }
+{
+    let got = reader::read_strict(table, message, store);
+    tell_read(got, place, count)
 }
 
 #[no_mangle]

@@ -9,10 +9,10 @@ use native.Mathlib.Omega.{arith}
 use lib.ListN.{length, take}
 use borrow.Author.Tests.{le-leb, lt-leb}
 use Rattle.wire.specs.declared.Refusal.the-variants.{End}
-use Rattle.wire.specs.declared.Item.the-variants.{Took, Refused}
+use Rattle.wire.specs.declared.Item.the-variants.{Refused}
 use Rattle.wire.specs.Tests.{pick}
 use Rattle.wire.specs.Shape.{Width, w16, w32, w64, bits, size, Order, le, Sign, signed, fixed}
-use Rattle.wire.specs.Numbers.{word, inOrder, little, wordOf}
+use Rattle.wire.specs.Numbers.{word, took, inOrder, little, wordOf}
 use Rattle.wire.specs.Reading.{readPlain}
 use Rattle.zigzag.specs.Widths.{widthOf, extended}
 use Rattle.fixint.specs.Sizes.{byteOf, signOf, IsSize, numberOf, Floats}
@@ -40,9 +40,9 @@ pub ended : (n : ℕ) (g : Sign) (o : Order) (s : List ℕ) → length s < n →
 unfolding numberOf wordOf pick
 ended n g o s h = rw (lt-leb n (length s) h)
 
-pub took : (n : ℕ) (g : Sign) (o : Order) (s : List ℕ) → n ≤ length s → Took (word g (8 * n) (little (inOrder o (take n s)))) 0 n ≡ numberOf n g o s
+pub is-number : (n : ℕ) (g : Sign) (o : Order) (s : List ℕ) → n ≤ length s → took (word g (8 * n) (little (inOrder o (take n s)))) 0 n ≡ numberOf n g o s
 unfolding numberOf wordOf pick
-took n g o s h = rw (le-leb n (length s) h)
+is-number n g o s h = rw (le-leb n (length s) h)
 
 -- ---- the leaves
 

@@ -1,5 +1,6 @@
 // Fixed-size numbers: one, two, four or eight bytes, little-endian, or reversed for big-endian.
 use wire::Item;
+use wire::Own;
 use wire::Refusal;
 ghost use mathlib.Core.Path.{_≡_};
 ghost use Prim.Native.Nat.{_*_, _^_, _<_, _≤_};
@@ -137,9 +138,12 @@ fn take(part: &[u8], n: usize, signed: bool, big: bool) -> Item
     let x = word(part, n, big);
     let first = with_sign(x, n, signed);
     Item::Took {
-        first,
-        second: 0,
-        used: n,
+        own: Own {
+            first,
+            second: 0,
+            used: n,
+            shortest: true,
+        },
     }
 }
 

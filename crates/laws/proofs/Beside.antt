@@ -53,7 +53,7 @@ module _ (b : Sides) where
       where
         go : (x y : Spot) {i j : Item} → Items b k n x y i j
             → Runs b (enter i (λ a. f (following k a)) x .made) (enter i (λ a. f (following k a)) x .ends) (enter j (λ a. g (following k a)) y .made) (enter j (λ a. g (following k a)) y .ends)
-        go x y (alike {a} {u} {v} kn e c s) = rw (← e) (runs-behind (also c none) (r a kn .runs (past u x) (past v y) s))
+        go x y (alike {o} {q} kn e c s) = rw (← e) (runs-behind (also c none) (r (o .first) kn .runs (past (o .used) x) (past (q .used) y) s))
         go x y (refuse s) = parted {es = []} refl none s
         go x y (part s) = parted {es = []} refl none (s _ _)
 

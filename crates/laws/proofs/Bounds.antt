@@ -10,18 +10,20 @@ use lib.ListN.{length, drop, length-drop}
 use lib.Seq.{drop-drop}
 use lib.Dec.{T, leb, ltb, leb→le, nltb→le}
 use Rattle.wire.specs.declared.Refusal.{Refusal}
+use Rattle.wire.specs.declared.Own.{Own}
 use Rattle.wire.specs.declared.Item.{Item}
 use Rattle.wire.specs.declared.Item.the-variants.{Took, Refused}
 use Rattle.wire.specs.Tests.{pick}
-use Rattle.wire.specs.Numbers.{most, last, varintF, varint, onFirst, wordOf}
+use Rattle.wire.specs.Numbers.{most, last, varintF, varint, onFirst, took, wordOf}
 use Rattle.wire.specs.Shape.{Width, w32, w64, Plain, bool, i8, u8, f32, f64, char, unit, int, fixed, Kind, plain, pooled, option, sequence, map, struct, enum, Shapes}
 use Rattle.wire.specs.Walk.{walk}
 use Rattle.wire.specs.Values.{Entry}
-use Rattle.wire.specs.Reading.{Spot, Run, Outcome, reached, flag, counted, charOf, contentOf, readPlain, known, Head, head, runAfter, readNothing, readOn, readThen, past, enter, readItem, reading}
+use Rattle.wire.specs.Reading.{Spot, Run, Outcome, reached, flag, counted, charOf, contentOf, readPlain, known, Head, head, strictly, judged, headBy, runAfter, readNothing, readOn, readThen, past, entryOf, enter, readItem, reading}
 use Rattle.laws.specs.Steps.{Every, row}
 use Rattle.laws.specs.Range.{span, InRange}
 use Rattle.laws.proofs.Varints.{in-range}
 use Rattle.laws.proofs.Known.{head-known}
+use Rattle.laws.proofs.Splits.{of-pick}
 use Rattle.laws.specs.Heads.{Sound}
 use Rattle.laws.specs.Bounds.{start, Fits, takes, Stays, reaches, ReadsInside, PlacesKept}
 use Rattle.laws.proofs.Walks.{every, every-row}
@@ -34,7 +36,7 @@ fits-pick true h k = h tt
 fits-pick false h k = k tt
 
 fits-range : (limit : ℕ) (s : List ℕ) (i : Item) → InRange limit s i → Fits s i
-fits-range limit s (Took v b n) h = takes (h .within)
+fits-range limit s (Took own) h = takes (h .within)
 fits-range limit s (Refused e) h = Fits.refuses
 
 pub fits-varint : (w : Width) (s : List ℕ) → Fits s (varint w s)
@@ -53,20 +55,23 @@ fits-word n f s = fits-pick (leb n (length s)) (λ h. takes (leb→le n (length 
 fits-flag : (e : Refusal) (s : List ℕ) → Fits s (flag e s)
 unfolding flag
 fits-flag e [] = Fits.refuses
-fits-flag e (b ∷ s) = fits-pick (leb b 1) (λ h. takes {n = 1} (omega arith)) (λ h. Fits.refuses)
+fits-flag e (b ∷ s) = fits-pick (leb b 1) (λ h. takes (omega arith)) (λ h. Fits.refuses)
 
 -- what stands behind a count is inside, if it is inside what the count left
-fits-counted : {s : List ℕ} {i : Item} (f : ℕ → ℕ → Item) → Fits s i → ((c n : ℕ) → n ≤ length s → Fits s (f c n)) → Fits s (counted i f)
+fits-counted : {s : List ℕ} {i : Item} (f : Own → Item) → Fits s i → ((own : Own) → own .used ≤ length s → Fits s (f own)) → Fits s (counted i f)
 unfolding counted
-fits-counted f (takes {a} {n = n} h) k = k a n h
+fits-counted f (takes {own} h) k = k own h
 fits-counted f Fits.refuses k = Fits.refuses
 
 -- so many bytes behind a count, if they are there and pass a test
-fits-part : (a b c n : ℕ) (e f : Refusal) (test : Bool) (s : List ℕ) → n ≤ length s
-    → Fits s (pick (ltb (length (drop n s)) c) (Refused e) (pick test (Took a b (n + c)) (Refused f)))
-fits-part a b c n e f test s h =
+fits-part : (c n : ℕ) (own : Own) (e f : Refusal) (test : Bool) (s : List ℕ) → own .used ≡ n + c → n ≤ length s
+    → Fits s (pick (ltb (length (drop n s)) c) (Refused e) (pick test (Took own) (Refused f)))
+fits-part c n own e f test s is h =
     fits-pick (ltb (length (drop n s)) c) (λ _. Fits.refuses)
-    (λ l. fits-pick test (λ _. takes {n = n + c} (omega (arith, length-drop n s, nltb→le (length (drop n s)) c l))) (λ _. Fits.refuses))
+    (λ l. fits-pick test (λ _. takes (omega (arith, is, length-drop n s, nltb→le (length (drop n s)) c l))) (λ _. Fits.refuses))
+
+fits-none : (s : List ℕ) → Fits s (took 0 0 0)
+fits-none s = let h : 0 ≤ length s = omega arith in takes h
 
 fits-leaf : (l : Plain) (s : List ℕ) → Fits s (readPlain l s)
 unfolding readPlain charOf
@@ -75,29 +80,57 @@ fits-leaf i8 s = fits-word 1 _ s
 fits-leaf u8 s = fits-word 1 _ s
 fits-leaf f32 s = fits-word 4 _ s
 fits-leaf f64 s = fits-word 8 _ s
-fits-leaf char s = fits-counted _ (fits-varint w64 s) (λ c n h. fits-pick (ltb 4 c) (λ _. Fits.refuses) (λ _. fits-part _ _ c n _ _ _ s h))
-fits-leaf unit s = takes {n = 0} (omega arith)
+fits-leaf char s =
+    fits-counted _ (fits-varint w64 s) (λ c h. fits-pick (ltb 4 (c .first)) (λ _. Fits.refuses) (λ _. fits-part (c .first) (c .used) _ _ _ _ s refl h))
+fits-leaf unit s = fits-none s
 fits-leaf (int g w) s = fits-onFirst _ (fits-varint w s)
 fits-leaf (fixed o g w) s = fits-word _ _ s
 
 fits-known : (n : ℕ) {s : List ℕ} {i : Item} → Fits s i → Fits s (known n i)
 unfolding known
-fits-known n (takes {a} h) = fits-pick (ltb a n) (λ _. takes h) (λ _. Fits.refuses)
+fits-known n (takes {own} h) = fits-pick (ltb (own .first) n) (λ _. takes h) (λ _. Fits.refuses)
 fits-known n Fits.refuses = Fits.refuses
 
 pub head-fits : (k : Kind) (n p : ℕ) (s : List ℕ) → Fits s (head k n p s)
 unfolding head contentOf
 head-fits (plain l) n p s = fits-leaf l s
-head-fits (pooled k) n p s = fits-counted _ (fits-varint w64 s) (λ c u h. fits-part _ _ c u _ _ _ s h)
+head-fits (pooled k) n p s = fits-counted _ (fits-varint w64 s) (λ c h. fits-part (c .first) (c .used) _ _ _ _ s refl h)
 head-fits option n p s = fits-flag _ s
 head-fits sequence n p s = fits-varint w64 s
 head-fits map n p s = fits-varint w64 s
-head-fits struct n p s = takes {n = 0} (omega arith)
+head-fits struct n p s = fits-none s
 head-fits enum n p s = fits-known n (fits-varint w32 s)
+
+-- a strict reading's way refuses more, and changes nothing
+fits-judged : (strict : Bool) {s : List ℕ} {i : Item} → Fits s i → Fits s (judged strict i)
+unfolding judged strictly
+fits-judged true (takes {own} h) = fits-pick (own .shortest) (λ _. takes h) (λ _. Fits.refuses)
+fits-judged true Fits.refuses = Fits.refuses
+fits-judged false h = h
+
+-- what is taken strictly is taken
+pub judged-took : (strict : Bool) (i : Item) {own : Own} → judged strict i ≡ Took own → i ≡ Took own
+unfolding judged strictly
+judged-took true (Took got) {own} e = of-pick (λ j. j ≡ Took own → Took got ≡ Took own) (got .shortest) _ _ (λ _ q. q) (λ _ q. cc) e
+judged-took true (Refused why) e = cc
+judged-took false i e = e
 
 pub head-sound : Sound head
 unfolding head
 head-sound = record { inside = head-fits; knows = head-known; bare = λ n p s. refl }
+
+pub head-by-sound : (strict : Bool) → Sound (headBy strict)
+unfolding headBy head
+head-by-sound strict =
+    record {
+      inside = λ k n p s. fits-judged strict (head-fits k n p s);
+      knows = λ k n p s e. head-known k n p s (judged-took strict (head k n p s) e);
+      bare = λ n p s. bare strict;
+    }
+  where
+    bare : (strict : Bool) → judged strict (took 0 0 0) ≡ took 0 0 0
+    bare true = unfold judged strictly pick in refl
+    bare false = unfold judged in refl
 
 -- ---- a run
 
@@ -141,8 +174,7 @@ module _ {h : Head} (sound : Sound h) where
     where
       go : (x : Spot) {i : Item} → Fits (x .bytes) i → Stays x (enter i f x .made) (enter i f x .ends)
       go x Fits.refuses = Stays.refuses {p = x .place} (omega arith) (omega arith) refl
-      go x (takes {a} {b} {n = u} l) =
-          stays-behind (record { first = a; second = b; place = x .place } ∷ []) u l refl refl (r a .stays (past u x))
+      go x (takes {own} l) = stays-behind (entryOf own x ∷ []) (own .used) l refl refl (r (own .first) .stays (past (own .used) x))
 
   steady : Every (λ (i : Unit {0}). reading h) (λ f. Steady (f tt))
   steady = record { none = steady-nothing; both = steady-then; made = λ f k n. steady-item k n }

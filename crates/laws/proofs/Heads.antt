@@ -12,12 +12,11 @@ use borrow.Author.Tests.{ltb-true, eqb-true}
 use Rattle.wire.specs.declared.Refusal.{Refusal}
 use Rattle.wire.specs.declared.Refusal.the-variants.{BadBool, BadOption}
 use Rattle.wire.specs.declared.Item.{Item}
-use Rattle.wire.specs.declared.Item.the-variants.{Took}
 use Rattle.wire.specs.Tests.{pick, both}
 use Rattle.wire.specs.Shape.{w32, w64, bits, size, le, signed, unsigned, Plain, bool, i8, u8, f32, f64, char, unit, int, fixed, Content, Kind, plain, pooled, option, sequence, map, struct, enum}
 use Rattle.wire.specs.Walk.{following, isKnown}
 use Rattle.wire.specs.Values.{Tag, part, content, isPooled, valueOf}
-use Rattle.wire.specs.Numbers.{varint, shortest, word, isWord, inOrder}
+use Rattle.wire.specs.Numbers.{varint, shortest, word, isWord, took, inOrder}
 use Rattle.wire.specs.Text.{charBytes}
 use Rattle.wire.specs.Reading.{flag, charOf, isContent, contentOf, readPlain, known, head}
 use Rattle.wire.specs.Writing.{single, withCount, plainBytes, headBytes}
@@ -26,35 +25,33 @@ use Rattle.laws.proofs.Own.{when-some, single-some}
 use Rattle.laws.proofs.Varints.{varint-back}
 use Rattle.laws.proofs.Numbers.{bits8, bits32, bits64, bitsOf, bytes-of-width, int-back, fixed-back}
 use Rattle.laws.proofs.Utf8.{IsText, char-text}
-use Rattle.laws.proofs.Contents.{length-part, length-withCount, count-back, part-back, content-back, char-back}
+use Rattle.laws.proofs.Contents.{length-part, count-back, part-back, content-back, char-back}
 
 -- ---- an item that is a number
 
 -- what is read is the number's word again
 pub record NumberBack (i : Item) (a b : ℕ) (s : List ℕ) : Type 0 where
   pub alone : b ≡ 0
-  pub reads : i ≡ Took a 0 (length s)
+  pub reads : i ≡ took a 0 (length s)
 
 single-back : (f : List ℕ → Item) (ok : Bool) (a b : ℕ) (t : List ℕ) {s : List ℕ} (rest : List ℕ) → single ok b t ≡ some s
-    → (ok ≡ true → f (t ++ rest) ≡ Took a 0 (length t)) → NumberBack (f (s ++ rest)) a b s
+    → (ok ≡ true → f (t ++ rest) ≡ took a 0 (length t)) → NumberBack (f (s ++ rest)) a b s
 single-back f ok a b t rest e back = let r = single-some ok b t e in rw (← (r .2)) (record { alone = r .1; reads = back (r .0) })
 
-flag-back : (e : Refusal) (a : ℕ) (rest : List ℕ) → leb a 1 ≡ true → flag e (a ∷ rest) ≡ Took a 0 1
+flag-back : (e : Refusal) (a : ℕ) (rest : List ℕ) → leb a 1 ≡ true → flag e (a ∷ rest) ≡ took a 0 1
 unfolding flag pick
 flag-back e a rest h = rw h
 
-zero-back : (a : ℕ) → eqb a 0 ≡ true → Took 0 0 0 ≡ Took a 0 0
-zero-back a e = ap (λ x. Took x 0 0) (sym (eqb-true a 0 e))
+zero-back : (a : ℕ) → eqb a 0 ≡ true → took 0 0 0 ≡ took a 0 0
+zero-back a e = ap (λ x. took x 0 0) (sym (eqb-true a 0 e))
 
-count-item : (a : ℕ) (rest : List ℕ) → isWord unsigned 64 a ≡ true → varint w64 (shortest a ++ rest) ≡ Took a 0 (length (shortest a))
+count-item : (a : ℕ) (rest : List ℕ) → isWord unsigned 64 a ≡ true → varint w64 (shortest a ++ rest) ≡ took a 0 (length (shortest a))
 unfolding isWord bits
 count-item a rest is = varint-back w64 a rest (ltb-true a (2 ^ 64) is)
 
-char-item : (a : ℕ) (rest : List ℕ) → IsText a (charBytes a) → readPlain char (withCount (charBytes a) ++ rest) ≡ Took a 0 (length (withCount (charBytes a)))
+char-item : (a : ℕ) (rest : List ℕ) → IsText a (charBytes a) → readPlain char (withCount (charBytes a) ++ rest) ≡ took a 0 (length (withCount (charBytes a)))
 unfolding readPlain
-char-item a rest h =
-    count-back charOf (charBytes a) rest (omega (arith, h .few-bytes)) ∙ char-back a _ (charBytes a) rest h
-    ∙ ap (Took a 0) (sym (length-withCount (charBytes a)))
+char-item a rest h = count-back charOf (charBytes a) rest (omega (arith, h .few-bytes)) ∙ char-back a rest h
 
 pub leaf-back : (l : Plain) (a b : ℕ) {s : List ℕ} (rest : List ℕ) → a < 2 ^ 64 → plainBytes l a b ≡ some s → NumberBack (readPlain l (s ++ rest)) a b s
 unfolding plainBytes readPlain word isWord inOrder
@@ -79,7 +76,7 @@ tag k a b p = record { kind = k; entry = record { first = a; second = b; place =
 pub record ItemBack (k : Kind) (n : ℕ) (pool : List ℕ) (a b : ℕ) (s : List ℕ) (p : ℕ) (rest message : List ℕ) : Type 0 where
   pub first : ℕ
   pub second : ℕ
-  pub reads : head k n p (s ++ rest) ≡ Took first second (length s)
+  pub reads : head k n p (s ++ rest) ≡ took first second (length s)
   pub same : (i j : ℕ) → valueOf pool (tag k a b i) ≡ valueOf message (tag k first second j)
   pub ways : following k a ≡ following k first
 
@@ -110,9 +107,7 @@ module _ (n : ℕ) (pool : List ℕ) (a b : ℕ) (ha : a < 2 ^ 64) (hb : b < 2 ^
       (record {
         first = p + length (shortest (length t));
         second = length t;
-        reads =
-            count-back (contentOf k p) t rest few ∙ content-back k p _ t rest ok
-            ∙ ap (Took (p + length (shortest (length t))) (length t)) (sym (length-withCount t));
+        reads = count-back (contentOf k p) t rest few ∙ content-back k p t rest ok;
         same = λ i j. ap content (is ∙ sym (part-back message t rest p (rw (← e) at at)));
         ways = refl;
       })

@@ -24,3 +24,6 @@ pub mod Offsets
 pub mod Own
 pub mod Heads
 pub mod Places
+pub mod ReadBy
+pub mod NumbersAgain
+pub mod HeadsAgain

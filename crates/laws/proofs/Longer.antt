@@ -11,14 +11,15 @@ use lib.Dec.{leb, ltb}
 use borrow.Author.Tests.{leb-true, le-leb, ltb-false, le-ltb}
 use Rattle.wire.specs.declared.Refusal.{Refusal}
 use Rattle.wire.specs.declared.Refusal.the-variants.{End, BadChar, BadUtf8}
+use Rattle.wire.specs.declared.Own.{Own}
 use Rattle.wire.specs.declared.Item.{Item}
 use Rattle.wire.specs.declared.Item.the-variants.{Took, Refused}
 use Rattle.wire.specs.Tests.{pick, both}
-use Rattle.wire.specs.Numbers.{most, last, low, varintF, varint, onFirst, wordOf}
-use Rattle.wire.specs.Text.{utf8, firstChar}
+use Rattle.wire.specs.Numbers.{most, last, low, varintF, varint, onFirst, took, wordOf}
+use Rattle.wire.specs.Text.{utf8}
 use Rattle.wire.specs.Shape.{Width, w32, w64, Plain, bool, i8, u8, f32, f64, char, unit, int, fixed, Content, Kind, plain, pooled, option, sequence, map, struct, enum, Shape}
 use Rattle.wire.specs.Values.{Entry}
-use Rattle.wire.specs.Reading.{Spot, Run, Outcome, reached, refused, flag, counted, charOf, isContent, contentOf, readPlain, known, head, past, read}
+use Rattle.wire.specs.Reading.{Spot, Run, Outcome, reached, refused, flag, counted, charIn, charOf, isContent, contentIn, contentOf, readPlain, known, head, past, read}
 use Rattle.laws.specs.Bounds.{Fits, takes}
 use Rattle.laws.specs.Beside.{Sides, Each, Runs, ended, parted, Items, alike, refuse, part, ItemsAlike}
 use Rattle.laws.specs.Beside as beside
@@ -69,7 +70,7 @@ module _ (extra : List ℕ) where
   long-word n f s = go (leb n (length s)) refl
     where
       go : (x : Bool) → leb n (length s) ≡ x
-          → Long (pick x (Took (f (take n s)) 0 n) (Refused End)) (pick (leb n (length (s ++ extra))) (Took (f (take n (s ++ extra))) 0 n) (Refused End))
+          → Long (pick x (took (f (take n s)) 0 n) (Refused End)) (pick (leb n (length (s ++ extra))) (took (f (take n (s ++ extra))) 0 n) (Refused End))
       go false e = short
       go true e =
           let h : n ≤ length s = leb-true n (length s) e in
@@ -93,20 +94,21 @@ module _ (extra : List ℕ) where
           let h : c ≤ length s = ltb-false (length s) c e in
           rw (le-ltb (length (s ++ extra)) c (simp length-append (omega arith)), take-append-le c s extra h) same
 
-  long-counted : (s : List ℕ) (g : ℕ → ℕ → List ℕ → Item) → ((c n : ℕ) (r : List ℕ) → Long (g c n r) (g c n (r ++ extra))) → {i j : Item} → Fits s i → Long i j
-      → Long (counted i (λ c n. g c n (drop n s))) (counted j (λ c n. g c n (drop n (s ++ extra))))
+  long-counted : (s : List ℕ) (g : Own → List ℕ → Item) → ((c : Own) (r : List ℕ) → Long (g c r) (g c (r ++ extra))) → {i j : Item} → Fits s i → Long i j
+      → Long (counted i (λ c. g c (drop (c .used) s))) (counted j (λ c. g c (drop (c .used) (s ++ extra))))
   unfolding counted
   long-counted s g h f short = short
   long-counted s g h Fits.refuses same = same
-  long-counted s g h (takes {a} {n = n} l) same = rw (drop-append-le n s extra l) (h a n (drop n s))
+  long-counted s g h (takes {own} l) same = rw (drop-append-le (own .used) s extra l) (h own (drop (own .used) s))
 
-  long-char : (c n : ℕ) (r : List ℕ) → Long (charOf c n r) (charOf c n (r ++ extra))
+  long-char : (c : Own) (r : List ℕ) → Long (charOf c r) (charOf c (r ++ extra))
   unfolding charOf
-  long-char c n r = long-pick (ltb 4 c) same (long-part (λ t. pick (both (ltb 0 c) (utf8 t)) (Took (firstChar t) 0 (n + c)) (Refused BadChar)) c r)
+  long-char c r =
+      long-pick (ltb 4 (c .first)) same (long-part (λ t. pick (both (ltb 0 (c .first)) (utf8 t)) (Took (charIn c t)) (Refused BadChar)) (c .first) r)
 
-  long-content : (k : Content) (p c n : ℕ) (r : List ℕ) → Long (contentOf k p c n r) (contentOf k p c n (r ++ extra))
+  long-content : (k : Content) (p : ℕ) (c : Own) (r : List ℕ) → Long (contentOf k p c r) (contentOf k p c (r ++ extra))
   unfolding contentOf
-  long-content k p c n r = long-part (λ t. pick (isContent k t) (Took (p + n) c (n + c)) (Refused BadUtf8)) c r
+  long-content k p c r = long-part (λ t. pick (isContent k t) (Took (contentIn p c)) (Refused BadUtf8)) (c .first) r
 
   long-leaf : (l : Plain) (s : List ℕ) → Long (readPlain l s) (readPlain l (s ++ extra))
   unfolding readPlain
@@ -152,8 +154,8 @@ module _ (extra : List ℕ) where
       go : (i : Item) {j : Item} → head k n (x .place) (x .bytes) ≡ i → Fits (x .bytes) i → Long i j → Items lengthened k n x (longer extra x) i j
       go (Refused r) q f same = refuse whole
       go (Refused r) {j = Refused r′} q f short = refuse cut
-      go (Refused r) {j = Took a b u} q f short = part (λ rest o. cut)
-      go (Took a b u) q (takes l) same = alike {u = u} {v = u} (head-known k n _ _ q) refl refl (rw (drop-append-le u (x .bytes) extra l))
+      go (Refused r) {j = Took own} q f short = part (λ rest o. cut)
+      go (Took own) q (takes l) same = alike {o = own} {q = own} (head-known k n _ _ q) refl refl (rw (drop-append-le (own .used) (x .bytes) extra l))
 
   reads-longer : (t : Shape) (x : Spot) → Runs lengthened (read t x .made) (read t x .ends) (read t (longer extra x) .made) (read t (longer extra x) .ends)
   unfolding read

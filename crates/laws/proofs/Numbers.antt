@@ -10,10 +10,9 @@ use lib.Arith.{mod-mul}
 use lib.ListN.{length, length-append, length-reverse}
 use lib.Seq.{take-append-seam}
 use borrow.Author.Tests.{ltb-true, leb-true, lt-ltb, le-ltb, le-leb, eq-eqb, ne-eqb}
-use Rattle.wire.specs.declared.Item.the-variants.{Took}
 use Rattle.wire.specs.Tests.{pick}
 use Rattle.wire.specs.Shape.{Width, w16, w32, w64, bits, size, Order, le, be, Sign, signed, unsigned}
-use Rattle.wire.specs.Numbers.{varint, shortest, signedWord, isSignedWord, zigzag, unzigzag, word, isWord, zigzagged, unzigzagged, onFirst, little, littleBytes, inOrder, wordOf}
+use Rattle.wire.specs.Numbers.{varint, shortest, signedWord, isSignedWord, zigzag, unzigzag, word, isWord, zigzagged, unzigzagged, onFirst, took, little, littleBytes, inOrder, wordOf}
 use Rattle.laws.proofs.Splits.{by-lt}
 use Rattle.laws.proofs.Varints.{varint-back}
 
@@ -122,7 +121,7 @@ module _ (n : ℕ) (part : Bits n) where
 
 -- a number's varint
 pub int-back : (g : Sign) (w : Width) (a : ℕ) (rest : List ℕ) → a < 2 ^ 64 → isWord g (bits w) a ≡ true
-    → onFirst (unzigzagged g) (varint w (shortest (zigzagged g a) ++ rest)) ≡ Took a 0 (length (shortest (zigzagged g a)))
+    → onFirst (unzigzagged g) (varint w (shortest (zigzagged g a) ++ rest)) ≡ took a 0 (length (shortest (zigzagged g a)))
 unfolding onFirst
 int-back g w a rest h is =
     rw (varint-back w (zigzagged g a) rest (zigzag-lt (bits w) (bitsOf w) g a h is), zigzag-back (bits w) (bitsOf w) g a h is)
@@ -158,16 +157,16 @@ bytes-of-width w32 = refl
 bytes-of-width w64 = refl
 
 -- k bytes at the front
-pub front-word : (k : ℕ) (f : List ℕ → ℕ) (s rest : List ℕ) → length s ≡ k → wordOf k f (s ++ rest) ≡ Took (f s) 0 (length s)
+pub front-word : (k : ℕ) (f : List ℕ → ℕ) (s rest : List ℕ) → length s ≡ k → wordOf k f (s ++ rest) ≡ took (f s) 0 (length s)
 unfolding wordOf pick
 front-word k f s rest e = rw (← e, le-leb (length s) (length (s ++ rest)) (simp length-append (omega arith)), take-append-seam s rest)
 
 -- a number of n bits in k bytes, in either order
 pub fixed-back : (o : Order) (g : Sign) (n k : ℕ) → Bits n → 256 ^ k ≡ 2 ^ n → (a : ℕ) (rest : List ℕ) → a < 2 ^ 64 → isWord g n a ≡ true
-    → wordOf k (λ b. word g n (little (inOrder o b))) (inOrder o (littleBytes k a) ++ rest) ≡ Took a 0 (length (inOrder o (littleBytes k a)))
+    → wordOf k (λ b. word g n (little (inOrder o b))) (inOrder o (littleBytes k a) ++ rest) ≡ took a 0 (length (inOrder o (littleBytes k a)))
 fixed-back o g n k part same a rest h is =
     front-word k (λ b. word g n (little (inOrder o b))) (inOrder o (littleBytes k a)) rest (length-order o (littleBytes k a) ∙ length-littleBytes k a)
-    ∙ ap (λ x. Took x 0 (length (inOrder o (littleBytes k a)))) value
+    ∙ ap (λ x. took x 0 (length (inOrder o (littleBytes k a)))) value
   where
     value : word g n (little (inOrder o (inOrder o (littleBytes k a)))) ≡ a
     value = rw (order-back, little-back, same) (word-back n part g a h is)

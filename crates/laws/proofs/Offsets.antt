@@ -9,22 +9,23 @@ use native.Mathlib.Omega.{arith}
 use lib.Dec.{ltb}
 use lib.ListN.{length, take, drop}
 use Rattle.wire.specs.declared.Refusal.the-variants.{End, BadUtf8}
+use Rattle.wire.specs.declared.Own.{Own}
 use Rattle.wire.specs.declared.Item.{Item}
 use Rattle.wire.specs.declared.Item.the-variants.{Took, Refused}
 use Rattle.wire.specs.Tests.{pick}
 use Rattle.wire.specs.Shape.{w64, Content, pooled}
 use Rattle.wire.specs.Numbers.{varint, onFirst}
-use Rattle.wire.specs.Reading.{counted, isContent, contentOf, head}
+use Rattle.wire.specs.Reading.{counted, isContent, contentIn, contentOf, head}
 use Rattle.laws.proofs.Splits.{of-pick}
 
 module _ (k : Content) (p : ℕ) (s : List ℕ) where
-  content-moved : (c n : ℕ) → onFirst (λ a. p + a) (contentOf k 0 c n (drop n s)) ≡ contentOf k p c n (drop n s)
+  content-moved : (c : Own) (t : List ℕ) → onFirst (λ a. p + a) (contentOf k 0 c t) ≡ contentOf k p c t
   unfolding contentOf onFirst pick
-  content-moved c n = go (ltb (length (drop n s)) c) (isContent k (take c (drop n s)))
+  content-moved c t = go (ltb (length t) (c .first)) (isContent k (take (c .first) t))
     where
-      go : (t u : Bool)
-          → onFirst (λ a. p + a) (pick t (Refused End) (pick u (Took (0 + n) c (n + c)) (Refused BadUtf8)))
-          ≡ pick t (Refused End) (pick u (Took (p + n) c (n + c)) (Refused BadUtf8))
+      go : (x u : Bool)
+          → onFirst (λ a. p + a) (pick x (Refused End) (pick u (Took (contentIn 0 c)) (Refused BadUtf8)))
+          ≡ pick x (Refused End) (pick u (Took (contentIn p c)) (Refused BadUtf8))
       go true u = refl
       go false true = rw zero-add
       go false false = refl
@@ -34,18 +35,21 @@ module _ (k : Content) (p : ℕ) (s : List ℕ) where
   unfolding head counted onFirst
   pooled-moved n = go (varint w64 s)
     where
-      go : (i : Item) → onFirst (λ a. p + a) (counted i (λ c u. contentOf k 0 c u (drop u s))) ≡ counted i (λ c u. contentOf k p c u (drop u s))
-      go (Took c b u) = content-moved c u
+      go : (i : Item) → onFirst (λ a. p + a) (counted i (λ c. contentOf k 0 c (drop (c .used) s))) ≡ counted i (λ c. contentOf k p c (drop (c .used) s))
+      go (Took c) = content-moved c (drop (c .used) s)
       go (Refused e) = refl
 
-  pub pooled-ends : (n : ℕ) {a b u : ℕ} → head (pooled k) n p s ≡ Took a b u → a + b ≡ p + u
+  pub pooled-ends : (n : ℕ) {own : Own} → head (pooled k) n p s ≡ Took own → own .first + own .second ≡ p + own .used
   unfolding head counted contentOf
-  pooled-ends n {a} {b} {u} = go (varint w64 s)
+  pooled-ends n {own} = go (varint w64 s)
     where
-      go : (i : Item) → counted i (λ c m. contentOf k p c m (drop m s)) ≡ Took a b u → a + b ≡ p + u
+      Ends : Item → Type 0
+      Ends j = j ≡ Took own → own .first + own .second ≡ p + own .used
+
+      go : (i : Item) → Ends (counted i (λ c. contentOf k p c (drop (c .used) s)))
       go (Refused e) = λ q. cc
-      go (Took c x m) =
-          of-pick (λ j. j ≡ Took a b u → a + b ≡ p + u) (ltb (length (drop m s)) c) _ _ (λ e q. cc)
-          (λ e. of-pick (λ j. j ≡ Took a b u → a + b ≡ p + u) (isContent k (take c (drop m s))) _ _
-          (λ ok q. let first : p + m ≡ a = cc in let second : c ≡ b = cc in let used : m + c ≡ u = cc in omega arith)
+      go (Took c) =
+          of-pick Ends (ltb (length (drop (c .used) s)) (c .first)) _ _ (λ e q. cc)
+          (λ e. of-pick Ends (isContent k (take (c .first) (drop (c .used) s))) _ _
+          (λ ok q. let same : contentIn p c ≡ own = cc in rw (← same) (omega arith))
           (λ bad q. cc))

@@ -16,7 +16,7 @@ use Rattle.wire.specs.Reading.{Head, Spot, Run, Outcome, reached, refused, runA
 
 -- ---- without a bound
 
-on-behind : (es : List Entry) (r : Run) (g : Spot → Run) → readOn (es ++ r .made) (r .ends) g ≡ runAfter es (readOn (r .made) (r .ends) g)
+pub on-behind : (es : List Entry) (r : Run) (g : Spot → Run) → readOn (es ++ r .made) (r .ends) g ≡ runAfter es (readOn (r .made) (r .ends) g)
 on-behind es r g = go (r .made) (r .ends)
   where
     go : (fs : List Entry) (o : Outcome) → readOn (es ++ fs) o g ≡ runAfter es (readOn fs o g)
@@ -64,7 +64,7 @@ module _ (h : Head) (k : Kind) (n : ℕ) (next : ℕ → Spot → Run) (x : Spot
     where
       go : (i : Item) → fit (suc room) (enter i next x) ≡ enter i (λ a y. fit room (next a y)) x
       go (Refused e) = unfold fit enter within in refl
-      go (Took a b u) = unfold fit enter within runAfter in refl
+      go (Took own) = unfold fit enter within runAfter in refl
 
   pub fit-none : fit 0 (readItem h k n next x) ≡ record { made = []; ends = refused Room (x .place) }
   unfolding readItem
@@ -72,7 +72,7 @@ module _ (h : Head) (k : Kind) (n : ℕ) (next : ℕ → Spot → Run) (x : Spot
     where
       go : (i : Item) → fit 0 (enter i next x) ≡ record { made = []; ends = refused Room (x .place) }
       go (Refused e) = unfold fit enter within in refl
-      go (Took a b u) = unfold fit enter within runAfter in refl
+      go (Took own) = unfold fit enter within runAfter in refl
 
 -- ---- enough room
 

@@ -1,18 +1,19 @@
 -- Varints, once over every width: what is read is in range, a read gives back what was written, and no shorter form is read as the same number.
 -- Assumes nothing.
-use mathlib.Core.Path.{_≡_, refl, ap}
+use mathlib.Core.Path.{_≡_, refl, ap, _∙_}
 use mathlib.Core.List.{List, [], _∷_, _++_}
 use Prim.Native.Nat.{ℕ, zero, suc, _+_, _*_, _/_, _%_, _^_, _<_, _≤_}
 use native.Mathlib.Omega.{arith}
 use native.Mathlib.Numerals.{add-one}
 use lib.ListN.{length, take}
 use lib.Dec.{ltb, leb}
-use borrow.Author.Tests.{lt-ltb, le-ltb, le-leb, ltb-true, leb-true}
+use borrow.Author.Tests.{lt-ltb, le-ltb, le-leb, ltb-true, leb-true, eq-eqb}
+use Rattle.wire.specs.declared.Own.{Own}
 use Rattle.wire.specs.declared.Item.{Item}
 use Rattle.wire.specs.declared.Item.the-variants.{Took, Refused}
 use Rattle.wire.specs.Tests.{pick}
 use Rattle.wire.specs.Shape.{Width, w16, w32, w64, bits}
-use Rattle.wire.specs.Numbers.{most, last, low, varintF, varint, shortestF, shortest}
+use Rattle.wire.specs.Numbers.{most, last, low, spelled, varintF, varint, shortestF, shortest, took}
 use Rattle.laws.specs.Range.{AreBytes, span, Good, Taken, InRange}
 use Rattle.laws.proofs.Splits.{by-lt, of-pick}
 
@@ -43,7 +44,7 @@ span-bits w64 = refl
 
 -- ---- a byte at the front, and a number
 
-pub varint-small : (k top b : ℕ) (s : List ℕ) → b < 128 → varintF (suc (suc k)) top (b ∷ s) ≡ Took b 0 1
+pub varint-small : (k top b : ℕ) (s : List ℕ) → b < 128 → varintF (suc (suc k)) top (b ∷ s) ≡ spelled b 1
 unfolding varints
 varint-small k top b s h = rw (lt-ltb b 128 h)
 
@@ -63,28 +64,32 @@ shortest-more f x h = rw (le-ltb x 128 h)
 
 low-in : (limit b : ℕ) (s : List ℕ) (r : Item) → InRange limit s r → InRange (128 * limit) (b ∷ s) (low b r)
 unfolding low
-low-in limit b s (Took v w n) h = omega arith
+low-in limit b s (Took own) h =
+    record { small = omega (arith, h .small); single = refl; some = omega arith; within = omega (arith, h .within); form = refl }
 low-in limit b s (Refused e) h = tt
+
+one-in : (limit b : ℕ) (s : List ℕ) → b < limit → InRange limit (b ∷ s) (spelled b 1)
+one-in limit b s h = record { small = h; single = refl; some = omega arith; within = omega arith; form = refl }
 
 pub in-range : (k top : ℕ) (s : List ℕ) → InRange (span k top) s (varintF k top s)
 unfolding varintF span
 in-range zero top s = tt
 in-range (suc k) top [] = tt
 in-range (suc zero) top (b ∷ s) =
-    of-pick (InRange (top + 1) (b ∷ s)) (leb b top) _ _ (λ e. omega (arith, leb-true b top e)) (λ e. tt)
+    of-pick (InRange (top + 1) (b ∷ s)) (leb b top) _ _ (λ e. one-in (top + 1) b s (omega (arith, leb-true b top e))) (λ e. tt)
 in-range (suc (suc k)) top (b ∷ s) =
-    of-pick (InRange (128 * span (suc k) top) (b ∷ s)) (ltb b 128) _ _ (λ e. omega (arith, ltb-true b 128 e, span-pos k top))
+    of-pick (InRange (128 * span (suc k) top) (b ∷ s)) (ltb b 128) _ _ (λ e. one-in (128 * span (suc k) top) b s (omega (arith, ltb-true b 128 e, span-pos k top)))
     (λ e. low-in (span (suc k) top) b s (varintF (suc k) top s) (in-range (suc k) top s))
 
 -- the same of an answer that is a value, for a caller
-pub took-in : (w : Width) (s : List ℕ) {v b n : ℕ} → varint w s ≡ Took v b n → Taken (span (most w) (last w)) s v b n
+pub took-in : (w : Width) (s : List ℕ) {own : Own} → varint w s ≡ Took own → Taken (span (most w) (last w)) s own
 unfolding varint
 took-in w s e = rw e at (in-range (most w) (last w) s)
 
 -- ---- a read gives back what was written
 
 back : (k f top x : ℕ) (rest : List ℕ) → k ≤ f → top < 128 → x < span (suc k) top
-    → varintF (suc k) top (shortestF (suc f) x ++ rest) ≡ Took x 0 (length (shortestF (suc f) x))
+    → varintF (suc k) top (shortestF (suc f) x ++ rest) ≡ spelled x (length (shortestF (suc f) x))
 unfolding varints
 back zero f top x rest hf hl h = rw (lt-ltb x 128 (omega arith), le-leb x top (omega arith))
 back (suc k) zero top x rest hf hl h = absurd (omega arith)
@@ -96,14 +101,15 @@ back (suc k) (suc f) top x rest hf hl h =
     rw (shortest-more (suc f) x hi, varint-more k top (x % 128 + 128) (shortestF (suc f) (x / 128) ++ rest) (omega arith), ih, whole, add-one))
 
 back-of : (k top x : ℕ) (rest : List ℕ) → Good k top → x < span k top
-    → varintF k top (shortest x ++ rest) ≡ Took x 0 (length (shortest x))
+    → varintF k top (shortest x ++ rest) ≡ spelled x (length (shortest x))
 unfolding shortest most
 back-of zero top x rest g h = absurd (omega arith)
 back-of (suc k) top x rest g h = back k 9 top x rest (omega arith) (g .high) h
 
-pub varint-back : (w : Width) (x : ℕ) (rest : List ℕ) → x < 2 ^ bits w → varint w (shortest x ++ rest) ≡ Took x 0 (length (shortest x))
+pub varint-back : (w : Width) (x : ℕ) (rest : List ℕ) → x < 2 ^ bits w → varint w (shortest x ++ rest) ≡ took x 0 (length (shortest x))
 unfolding varint
-varint-back w x rest h = back-of (most w) (last w) x rest (good w) (rw (span-bits w) h)
+varint-back w x rest h =
+    back-of (most w) (last w) x rest (good w) (rw (span-bits w) h) ∙ rw (eq-eqb (length (shortest x)) (length (shortest x)) refl)
 
 -- ---- and it is the shortest
 
@@ -118,7 +124,7 @@ pub record Least (y s : List ℕ) (n : ℕ) : Type 0 where
   pub only : n ≡ length y → take n s ≡ y
 
 abbrev AreLeast : (short : ℕ → List ℕ) (s : List ℕ) → Item → Type 0
-AreLeast short s (Took x b n) = Least (short x) s n
+AreLeast short s (Took own) = Least (short (own .first)) s (own .used)
 AreLeast short s (Refused e) = Unit {0}
 
 small-least : (f x : ℕ) (s : List ℕ) → x < 128 → Least (shortestF (suc f) x) (x ∷ s) 1
@@ -127,8 +133,14 @@ small-least f x s h = rw (shortest-small f x h) (record { least = omega arith; o
 low-least : (b f : ℕ) (s : List ℕ) (i : Item) → 128 ≤ b → b < 256 → AreLeast (shortestF (suc f)) s i → AreLeast (shortestF (suc (suc f))) (b ∷ s) (low b i)
 unfolding low
 low-least b f s (Refused e) l h r = tt
-low-least b f s (Took v c n) l h r = rw add-one (by-lt x 128 short long)
+low-least b f s (Took own) l h r = rw add-one (by-lt x 128 short long)
   where
+    v : ℕ
+    v = own .first
+
+    n : ℕ
+    n = own .used
+
     x : ℕ
     x = b % 128 + 128 * v
 
@@ -161,6 +173,6 @@ unfolding shortest most
 least-of zero top s bs g = absurd (omega arith)
 least-of (suc k) top s bs g = are-least k 9 top s bs (g .high) (omega arith)
 
-pub varint-least : (w : Width) (s : List ℕ) {x b n : ℕ} → AreBytes s → varint w s ≡ Took x b n → Least (shortest x) s n
+pub varint-least : (w : Width) (s : List ℕ) {own : Own} → AreBytes s → varint w s ≡ Took own → Least (shortest (own .first)) s (own .used)
 unfolding varint
 varint-least w s bs e = rw e at (least-of (most w) (last w) s bs (good w))

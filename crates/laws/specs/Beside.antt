@@ -6,12 +6,13 @@ use mathlib.Core.Bool.{true}
 use mathlib.Core.List.{List, [], _∷_, _++_}
 use Prim.Native.Nat.{ℕ}
 use Rattle.wire.specs.declared.Refusal.{Refusal}
+use Rattle.wire.specs.declared.Own.{Own}
 use Rattle.wire.specs.declared.Item.{Item}
 use Rattle.wire.specs.declared.Item.the-variants.{Took, Refused}
 use Rattle.wire.specs.Shape.{Kind, Shape}
 use Rattle.wire.specs.Walk.{following, isKnown, walk}
 use Rattle.wire.specs.Values.{Entry}
-use Rattle.wire.specs.Reading.{Head, Spot, Outcome, reached, refused, past, reading}
+use Rattle.wire.specs.Reading.{Head, Spot, Outcome, reached, refused, past, entryOf, reading}
 
 -- Which spots and which entries are alike, and what may be said of the second reading where the first one refuses at a place:
 -- the entries that the second makes from there on, and its end.
@@ -32,12 +33,11 @@ pub data Runs (b : Sides) (ds : List Entry) : Outcome → List Entry → Outcome
 
 -- two items of a kind with n children, at the spots x and y
 pub data Items (b : Sides) (k : Kind) (n : ℕ) (x y : Spot) : Item → Item → Type 0 where
-  alike : {a b₁ u c b₂ v : ℕ} → isKnown (following k a) n ≡ true → following k a ≡ following k c
-      → b .Entries (record { first = a; second = b₁; place = x .place }) (record { first = c; second = b₂; place = y .place })
-      → b .Spots (past u x) (past v y) → Items b k n x y (Took a b₁ u) (Took c b₂ v)
+  alike : {o q : Own} → isKnown (following k (o .first)) n ≡ true → following k (o .first) ≡ following k (q .first)
+      → b .Entries (entryOf o x) (entryOf q y) → b .Spots (past (o .used) x) (past (q .used) y) → Items b k n x y (Took o) (Took q)
   refuse : {e f : Refusal} → b .Parts e (x .place) [] (refused f (y .place)) → Items b k n x y (Refused e) (Refused f)
-  part : {e : Refusal} {c b₂ v : ℕ} → ((rest : List Entry) (o : Outcome) → b .Parts e (x .place) (record { first = c; second = b₂; place = y .place } ∷ rest) o)
-      → Items b k n x y (Refused e) (Took c b₂ v)
+  part : {e : Refusal} {q : Own} → ((rest : List Entry) (o : Outcome) → b .Parts e (x .place) (entryOf q y ∷ rest) o)
+      → Items b k n x y (Refused e) (Took q)
 
 -- all that a law of two readings has to show: of shapes that match where n is at most m, of one shape where m is n
 abbrev pub ItemsAlike : Sides → Head → Head → ℕ → ℕ → Type 0

@@ -5,6 +5,7 @@ use mathlib.Core.List.{List, [], _∷_}
 use Prim.Native.Nat.{ℕ, _+_, _≤_}
 use lib.ListN.{length}
 use Rattle.wire.specs.declared.Refusal.{Refusal}
+use Rattle.wire.specs.declared.Own.{Own}
 use Rattle.wire.specs.declared.Item.{Item}
 use Rattle.wire.specs.declared.Item.the-variants.{Took, Refused}
 use Rattle.wire.specs.Shape.{Shape}
@@ -19,7 +20,7 @@ start (e ∷ es) end = e .place
 
 -- an item takes no more bytes than there are
 pub data Fits (s : List ℕ) : Item → Type 0 where
-  takes : {a b n : ℕ} → n ≤ length s → Fits s (Took a b n)
+  takes : {own : Own} → own .used ≤ length s → Fits s (Took own)
   refuses : {e : Refusal} → Fits s (Refused e)
 
 -- a run from x reaches a spot that is so many of x's bytes behind it, or refuses an item there; its first entry stands at x

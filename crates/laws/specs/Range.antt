@@ -3,9 +3,12 @@
 use mathlib.Core.Path.{_≡_}
 use mathlib.Core.List.{List}
 use Prim.Native.Nat.{ℕ, zero, suc, _+_, _*_, _^_, _<_, _≤_}
+use lib.Dec.{eqb}
 use lib.ListN.{length, getD}
+use Rattle.wire.specs.declared.Own.{Own}
 use Rattle.wire.specs.declared.Item.{Item}
 use Rattle.wire.specs.declared.Item.the-variants.{Took, Refused}
+use Rattle.wire.specs.Numbers.{shortest}
 
 -- ---- lists of bytes and of words
 
@@ -33,13 +36,14 @@ pub record Good (most top : ℕ) : Type 0 where
   pub high : top < 128
   pub fits : span most top ≤ 2 ^ 64
 
--- a number below the limit that n bytes at the front of s were read as
-pub record Taken (limit : ℕ) (s : List ℕ) (v b n : ℕ) : Type 0 where
-  pub small : v < limit
-  pub single : b ≡ 0
-  pub some : 0 < n
-  pub within : n ≤ length s
+-- a number below the limit that bytes at the front of s were read as, in its shortest form or not
+pub record Taken (limit : ℕ) (s : List ℕ) (own : Own) : Type 0 where
+  pub small : own .first < limit
+  pub single : own .second ≡ 0
+  pub some : 0 < own .used
+  pub within : own .used ≤ length s
+  pub form : own .shortest ≡ eqb (own .used) (length (shortest (own .first)))
 
 abbrev pub InRange : ℕ → List ℕ → Item → Type 0
-InRange limit s (Took v b n) = Taken limit s v b n
+InRange limit s (Took own) = Taken limit s own
 InRange limit s (Refused e) = Unit {0}

@@ -10,6 +10,7 @@ use lib.Seq.{getD-take}
 use lib.Dec.{eqb}
 use borrow.Author.Tests.{lt-ltb, le-ltb, not-true}
 use Rattle.wire.specs.declared.Refusal.the-variants.{End, Record}
+use Rattle.wire.specs.declared.Own.{Own}
 use Rattle.wire.specs.declared.Item.{Item}
 use Rattle.wire.specs.declared.Item.the-variants.{Took, Refused}
 use Rattle.wire.specs.Tests.{pick, both}
@@ -110,8 +111,8 @@ low-place k p s h = anywhere (kindOf k) p s (not-pooled k h)
 -- a text's or bytes' offset is inside the part
 pub content-within : (k : Content) (p : ℕ) (s : List ℕ) → p + length s < 2 ^ 64 → Within p (head (pooled k) 0 0 s)
 unfolding Within
-content-within k p s h = go (head (pooled k) 0 0 s) (head-fits (pooled k) 0 0 s) (λ a b u. pooled-ends k 0 s 0)
+content-within k p s h = go (head (pooled k) 0 0 s) (head-fits (pooled k) 0 0 s) (λ own. pooled-ends k 0 s 0)
   where
-    go : (i : Item) → Fits s i → ((a b u : ℕ) → i ≡ Took a b u → a + b ≡ 0 + u) → Within p i
-    go (Took a b u) (takes l) e = omega (arith, e a b u refl)
+    go : (i : Item) → Fits s i → ((own : Own) → i ≡ Took own → own .first + own .second ≡ 0 + own .used) → Within p i
+    go (Took own) (takes l) e = omega (arith, e own refl)
     go (Refused w) f e = tt

@@ -18,5 +18,5 @@ takeAt k p s = pick (ltb (p + length s) (2 ^ 64)) (pick (isLeaf k) (head (kindOf
 
 -- the item's first word, counted from p, is a word
 unfoldable pub Within : ℕ → Item → Type 0
-Within p (Took a b n) = p + a < 2 ^ 64
+Within p (Took own) = p + own .first < 2 ^ 64
 Within p (Refused e) = Unit {0}

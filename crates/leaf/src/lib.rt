@@ -1,5 +1,6 @@
 // One leaf of any kind, from a part of the message that starts at its first byte.
 use wire::Item;
+use wire::Own;
 use wire::Refusal;
 ghost use mathlib.Core.Path.{_≡_};
 ghost use Prim.Native.Nat.{_+_, _≤_, _<_, _^_};
@@ -24,9 +25,12 @@ pub fn take_flag(part: &[u8], why: Refusal) -> Item
     let b = part[0] as u64;
     if b <= 1 {
         return Item::Took {
-            first: b,
-            second: 0,
-            used: 1,
+            own: Own {
+                first: b,
+                second: 0,
+                used: 1,
+                shortest: true,
+            },
         };
     }
     Item::Refused { why }
@@ -36,19 +40,17 @@ pub fn take_flag(part: &[u8], why: Refusal) -> Item
 pub fn unzigzag(got: Item) -> Item
     ensures { λ r. ⌜ r ≡ numbers.onFirst (numbers.unzigzagged shapes.signed) got ⌝ }
 {
-    let Item::Took {
-        first,
-        second,
-        used,
-    } = got
-    else {
+    let Item::Took { own } = got else {
         return got;
     };
-    let word = zigzag::unzigzag(first);
+    let word = zigzag::unzigzag(own.first);
     Item::Took {
-        first: word,
-        second,
-        used,
+        own: Own {
+            first: word,
+            second: own.second,
+            used: own.used,
+            shortest: own.shortest,
+        },
     }
 }
 
@@ -56,18 +58,16 @@ pub fn unzigzag(got: Item) -> Item
 pub fn anew(got: Item) -> Item
     ensures { λ r. ⌜ r ≡ got ⌝ }
 {
-    let Item::Took {
-        first,
-        second,
-        used,
-    } = got
-    else {
-        return got;
-    };
-    Item::Took {
-        first,
-        second,
-        used,
+    match got {
+        Item::Refused { why } => Item::Refused { why },
+        Item::Took { own } => Item::Took {
+            own: Own {
+                shortest: own.shortest,
+                first: own.first,
+                second: own.second,
+                used: own.used,
+            },
+        },
     }
 }
 
@@ -76,19 +76,17 @@ fn at_place(got: Item, place: usize) -> Item
     requires { ⌜ Within place got ⌝ }
     ensures { λ r. ⌜ r ≡ numbers.onFirst (λ a. place + a) got ⌝ }
 {
-    let Item::Took {
-        first,
-        second,
-        used,
-    } = got
-    else {
+    let Item::Took { own } = got else {
         return got;
     };
-    let offset = place as u64 + first;
+    let offset = place as u64 + own.first;
     Item::Took {
-        first: offset,
-        second,
-        used,
+        own: Own {
+            first: offset,
+            second: own.second,
+            used: own.used,
+            shortest: own.shortest,
+        },
     }
 }
 
@@ -137,9 +135,12 @@ fn text(kind: u8, part: &[u8], place: usize) -> Item
     match kind {
         11 => utf8::take_char(part),
         14 => Item::Took {
-            first: 0,
-            second: 0,
-            used: 0,
+            own: Own {
+                first: 0,
+                second: 0,
+                used: 0,
+                shortest: true,
+            },
         },
         _ => at_place(utf8::take_content(part, kind == 12), place),
     }

@@ -13,6 +13,7 @@ use say::say_with;
 use wire::Checked;
 use wire::Layout;
 use wire::ReadAnswer;
+use wire::Refusal;
 ghost use Prim.Native.Nat.{_+_, _≤_, _<_};
 ghost use Rattle.wire.specs.Shape.{depth as depthOf};
 ghost use Rattle.wire.specs.Table.{nodeAt, recordOf};
@@ -244,6 +245,66 @@ fn made_by(answer: ReadAnswer, bytes: bool) -> Made {
     }
 }
 
+// Where the own bytes of the item in front of the entry `at` end: where that one's begin, or else where the reading ended.
+fn end_before(store: &[u64], answer: ReadAnswer, at: usize) -> usize {
+    let made = made_by(answer, true);
+    if at < made.count {
+        if at < entry::room(store.len()) {
+            return entry::place(store, at) as usize;
+        }
+    }
+    made.end
+}
+
+fn is_longer(why: Refusal) -> bool {
+    match why {
+        Refusal::NotShortest => true,
+        _ => false,
+    }
+}
+
+// What a strict reading left to show. A plain one has read the item that isn't in its shortest form, so that one is shown too.
+fn made_strictly(store: &[u64], strict: ReadAnswer, plain: ReadAnswer) -> Made {
+    let made = made_by(strict, true);
+    let ReadAnswer::Refused {
+        why,
+        place: _,
+        count,
+    } = strict
+    else {
+        return made;
+    };
+    if is_longer(why) {
+        if count < entry::room(store.len()) {
+            let next = count + 1;
+            return Made {
+                count: next,
+                bytes: true,
+                end: end_before(store, plain, next),
+            };
+        }
+    }
+    made
+}
+
+// The entries that are to be shown, and the rest or why the message is refused.
+fn show_made(
+    table: &[u8],
+    message: &[u8],
+    store: &[u64],
+    made: Made,
+    answer: ReadAnswer,
+    rest: &[u8],
+) {
+    match table::check(table) {
+        Checked::Bad { why, place } => say_bad(why, place),
+        Checked::Good { layout } => {
+            show_entries(table, layout, store, made, message);
+            show_end(answer, rest);
+        }
+    }
+}
+
 // What reading a message by a table answered: the entries in the store, with their places and bytes where they are asked for,
 // and the rest or why it is refused.
 pub fn show(
@@ -254,11 +315,19 @@ pub fn show(
     rest: &[u8],
     bytes: bool,
 ) {
-    match table::check(table) {
-        Checked::Bad { why, place } => say_bad(why, place),
-        Checked::Good { layout } => {
-            show_entries(table, layout, store, made_by(answer, bytes), message);
-            show_end(answer, rest);
-        }
-    }
+    show_made(table, message, store, made_by(answer, bytes), answer, rest);
+}
+
+// What reading a message strictly by a table answered: the entries that a plain reading left in the store, as far as the strict
+// one goes, with their places and bytes; last the item, if one there is, that isn't in its shortest form.
+pub fn show_strictly(
+    table: &[u8],
+    message: &[u8],
+    store: &[u64],
+    strict: ReadAnswer,
+    plain: ReadAnswer,
+    rest: &[u8],
+) {
+    let made = made_strictly(store, strict, plain);
+    show_made(table, message, store, made, strict, rest);
 }

@@ -6,6 +6,7 @@ use Prim.Native.Nat.{ℕ}
 use native.Mathlib.Omega.{arith}
 use lib.Dec.{ltb}
 use Rattle.wire.specs.declared.Refusal.the-variants.{BadVarint}
+use Rattle.wire.specs.declared.Own.{Own}
 use Rattle.wire.specs.declared.Item.{Item}
 use Rattle.wire.specs.declared.Item.the-variants.{Took, Refused}
 use Rattle.wire.specs.Numbers.{varintF}
@@ -14,8 +15,8 @@ use Rattle.laws.proofs.Splits.{of-pick}
 use Rattle.laws.proofs.Varints.{in-range}
 use Rattle.varint.specs.Takes.{limitOf, takes}
 
-pub taken : (k top : ℕ) (s : List ℕ) {r : Item} {v b n : ℕ} → r ≡ takes k top s → r ≡ Took v b n → Taken (span k top) s v b n
+pub taken : (k top : ℕ) (s : List ℕ) {r : Item} {own : Own} → r ≡ takes k top s → r ≡ Took own → Taken (span k top) s own
 unfolding takes
-taken k top s {v} {b} {n} e t =
-    of-pick (λ i. i ≡ Took v b n → Taken (span k top) s v b n) (ltb top (limitOf k)) (varintF k top s) (Refused BadVarint)
+taken k top s {own} e t =
+    of-pick (λ i. i ≡ Took own → Taken (span k top) s own) (ltb top (limitOf k)) (varintF k top s) (Refused BadVarint)
     (λ _ q. rw q at (in-range k top s)) (λ _ q. let z : _≡_ {A = ℕ} 0 1 = cc in absurd (omega arith)) (sym e ∙ t)

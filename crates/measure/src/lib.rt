@@ -7,15 +7,11 @@ fn sum(message: &[u8], most: usize, last: u64) -> u64 {
     let mut rest = message;
     while 0 < rest.len() {
         let got = varint::take(rest, most, last);
-        let Item::Took {
-            first,
-            second: _,
-            used,
-        } = got
-        else {
+        let Item::Took { own } = got else {
             return sum;
         };
-        sum = std::num::wrapping_add_u64(sum, first);
+        sum = std::num::wrapping_add_u64(sum, own.first);
+        let used = own.used;
         rest = &rest[used..];
     }
     sum

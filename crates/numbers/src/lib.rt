@@ -1,4 +1,4 @@
-// Document 01's numbers of answers, as the static library returns them and the programs say them.
+// The documents' numbers of answers, as the static library returns them and the programs say them.
 use wire::FeedAnswer;
 use wire::Refusal;
 use wire::Side;
@@ -21,6 +21,7 @@ pub fn refusal(why: Refusal) -> u64
         Refusal::Room => 10,
         Refusal::Values => 11,
         Refusal::Full => 12,
+        Refusal::NotShortest => 16,
     }
 }
 

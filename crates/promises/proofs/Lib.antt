@@ -15,3 +15,6 @@ pub mod SameBytes
 pub mod Shortest
 pub mod Rest
 pub mod Skim
+pub mod Flags
+pub mod Strict
+pub mod StrictOnly

@@ -1,7 +1,7 @@
 -- A yes is given of good tables only, and asks of their shapes; how the old shape tells the new entries apart decides which of the two cases holds.
 -- Assumes nothing.
 use mathlib.Core.Path.{_≡_, refl, sym, ap, _∙_}
-use mathlib.Core.Bool.{true}
+use mathlib.Core.Bool.{Bool, true, false}
 use mathlib.Core.List.{List, _++_}
 use mathlib.Core.Option.{some}
 use Prim.Native.Nat.{ℕ}
@@ -17,7 +17,7 @@ use Rattle.wire.specs.Values.{Entry, Told, kept, lacks, short, tell, Value, Val
 use Rattle.wire.specs.Reading.{Spot, Outcome, reached, refused, Run}
 use Rattle.wire.specs.Append.{appends}
 use Rattle.wire.specs.Answers.{roomOf, readBy, reads, askBy, asks}
-use Rattle.promises.specs.OldNew.{AppendsTo, YesExactly, OldMakes, same, unknown, OldTableReads}
+use Rattle.promises.specs.OldNew.{AppendsTo, YesExactly, OldMakes, same, unknown, OldReads, OldTableReads}
 use Rattle.promises.specs.Shapes.{seen, OldValues, all-kept, cut}
 use Rattle.promises.specs.Telling.{over}
 use Rattle.promises.proofs.ShapeValues.{shape-old-reads-within, shape-never-another}
@@ -82,13 +82,14 @@ module _ (t : Shape) (message : List ℕ) (end : ℕ) (es : List Entry) (vs : Li
       rw (one-run s) (unknown ts x rest us more e (sym all) (ap (λ r. values t message (r .made)) (sym (one-run s)) ∙ are) front)
   by-told (short ts) e all r s v = let z : _≡_ {A = ℕ} 0 1 = cc in absurd (omega arith)
 
-pub old-table-reads : OldTableReads
-unfolding reads readBy
-old-table-reads old new y message store es end h =
+-- either way of reading
+pub old-reads-by : (strict : Bool) → OldReads (λ table message store. readBy strict (check table) table (roomOf store) message)
+unfolding readBy
+old-reads-by strict old new y message store es end h =
     let a = yes-appends old new y in
     let h = rw (a .goodNew) at h in
-    let sees = shape-old-reads-within _ _ (a .appends) (roomOf store) message es end h in
-    let (vs, are, olds) = shape-never-another _ _ (a .appends) (roomOf store) message es end h in (
+    let sees = shape-old-reads-within strict _ _ (a .appends) (roomOf store) message es end h in
+    let (vs, are, olds) = shape-never-another strict _ _ (a .appends) (roomOf store) message es end h in (
       a .oldLayout,
       a .newLayout,
       a .goodOld,
@@ -97,3 +98,7 @@ old-table-reads old new y message store es end h =
       are,
       rw (a .goodOld) (by-told _ message (end .place) es vs _ refl (tells-all _ es) _ sees olds),
     )
+
+pub old-table-reads : OldTableReads
+unfolding reads
+old-table-reads = old-reads-by false

@@ -1,6 +1,7 @@
 -- A reading stays inside its message, so that what it reached stands as far behind the front as its answer tells.
 -- Assumes nothing.
 use mathlib.Core.Path.{_≡_, ap}
+use mathlib.Core.Bool.{false}
 use mathlib.Core.List.{List}
 use Prim.Native.Nat.{ℕ, _+_}
 use native.Mathlib.Nat.{zero-add}
@@ -15,6 +16,7 @@ use Rattle.wire.specs.Answers.{roomOf, readBy, readAnswer, restOf, reads}
 use Rattle.laws.specs.Bounds.{Stays, reaches, refuses}
 use Rattle.laws.proofs.Bounds.{head-sound, read-stays}
 use Rattle.laws.proofs.Runs.{fit-reached}
+use Rattle.laws.proofs.ReadBy.{reads-plain}
 use Rattle.promises.specs.Rest.{RestIsLeft}
 
 -- a spot that the whole reading reaches stands so many bytes behind the message's front
@@ -28,10 +30,10 @@ pub rest-is-left : RestIsLeft
 unfolding reads readBy restOf readAnswer read
 rest-is-left table message store n x = go (check table)
   where
-    go : (c : Checked) → readBy c table (roomOf store) message .ends ≡ reached x → drop (x .place) message ≡ x .bytes
+    go : (c : Checked) → readBy false c table (roomOf store) message .ends ≡ reached x → drop (x .place) message ≡ x .bytes
     go (Good l) e =
         let run = read (shapeOf table l) (front message) in
         let fitted = fit (roomOf store) run in
-        let free = fit-reached (roomOf store) run (fitted .made) x (ap (λ o. record { made = fitted .made; ends = o }) e) .1 in
+        let free = fit-reached (roomOf store) run (fitted .made) x (ap (λ o. record { made = fitted .made; ends = o }) (rw reads-plain at e)) .1 in
         reached-behind message (run .made) x (read-stays head-sound (shapeOf table l) (front message)) (ap (λ r. r .ends) free)
     go (Bad e i) h = let z : _≡_ {A = ℕ} 0 1 = cc in absurd (omega arith)

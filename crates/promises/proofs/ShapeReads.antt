@@ -9,7 +9,8 @@ use native.Mathlib.Nat.{zero-add}
 use native.Mathlib.Omega.{arith}
 use lib.Dec.{ltb}
 use Rattle.wire.specs.declared.Refusal.{Refusal}
-use Rattle.wire.specs.declared.Refusal.the-variants.{Variant}
+use Rattle.wire.specs.declared.Refusal.the-variants.{Variant, NotShortest}
+use Rattle.wire.specs.declared.Own.{Own}
 use Rattle.wire.specs.declared.Item.{Item}
 use Rattle.wire.specs.declared.Item.the-variants.{Took, Refused}
 use Rattle.wire.specs.Tests.{pick, given}
@@ -17,15 +18,14 @@ use Rattle.wire.specs.Shape.{w32, Kind, plain, pooled, option, sequence, map, s
 use Rattle.wire.specs.Walk.{following, isKnown, Walk}
 use Rattle.wire.specs.Values.{Entry, Tag, Told, kept, lacks, toldAfter, tellNothing, tellOn, tellThen, tellItem, telling, tell}
 use Rattle.wire.specs.Numbers.{varint}
-use Rattle.wire.specs.Reading.{known, head, Spot, front, Outcome, reached, refused, Run, runAfter, readNothing, readOn, readThen, past, enter, readItem, reading, read}
+use Rattle.wire.specs.Reading.{known, head, strictly, judged, headBy, Spot, front, Outcome, reached, refused, Run, runAfter, readNothing, readOn, readThen, past, entryOf, enter, readItem, reading}
 use Rattle.laws.specs.Steps.{row, Law, Appending}
 use Rattle.laws.specs.Bounds.{start, Stays, reaches}
 use Rattle.laws.proofs.Walks.{walk-law, appends-law, matches-refl}
-use Rattle.laws.proofs.Known.{head-known}
-use Rattle.laws.proofs.Bounds.{head-sound, read-stays, row-stays}
+use Rattle.laws.proofs.Bounds.{head-by-sound, read-stays, row-stays}
 use Rattle.laws.proofs.Runs.{then-nothing}
 use Rattle.promises.specs.OldNew.{entries}
-use Rattle.promises.specs.Shapes.{seen, ShapeOldReads, MatchingWhole}
+use Rattle.promises.specs.Shapes.{readWith, seen, ShapeOldReads, MatchingWhole}
 use Rattle.promises.specs.Telling.{OwnTold}
 use Rattle.promises.proofs.Told.{entries-append, told-nothing}
 
@@ -79,8 +79,8 @@ keeps-then {w} {v} {f} {f′} {g} {g′} h k = record { tells = λ x. start′ (
 
 -- an item's own bytes under the old count of children and under the new one: taken alike, or taken by the new one alone, with a variant that the old one lacks
 data Heads (k : Kind) (n : ℕ) (old : Item) : Item → Type 0 where
-  alike : {a b u : ℕ} → old ≡ Took a b u → Heads k n old (Took a b u)
-  lacked : {a b u : ℕ} → old ≡ Refused Variant → isKnown (following k a) n ≡ false → Heads k n old (Took a b u)
+  alike : {own : Own} → old ≡ Took own → Heads k n old (Took own)
+  lacked : {own : Own} → old ≡ Refused Variant → isKnown (following k (own .first)) n ≡ false → Heads k n old (Took own)
   neither : {e : Refusal} → Heads k n old (Refused e)
 
 heads : (k : Kind) (n m p : ℕ) (s : List ℕ) → Heads k n (head k n p s) (head k m p s)
@@ -88,14 +88,14 @@ unfolding head known pick following isKnown
 heads k n m p s = go k
   where
     self : {k : Kind} (i : Item) → Heads k n i i
-    self (Took a b u) = alike refl
+    self (Took own) = alike refl
     self (Refused e) = neither
 
     variant : (i : Item) → Heads enum n (known n i) (known m i)
     variant (Refused e) = neither
-    variant (Took v b u) = test (ltb v n) (ltb v m) refl
+    variant (Took own) = test (ltb (own .first) n) (ltb (own .first) m) refl
       where
-        test : (x y : Bool) → ltb v n ≡ x → Heads enum n (pick x (Took v b u) (Refused Variant)) (pick y (Took v b u) (Refused Variant))
+        test : (x y : Bool) → ltb (own .first) n ≡ x → Heads enum n (pick x (Took own) (Refused Variant)) (pick y (Took own) (Refused Variant))
         test x false e = neither
         test true true e = alike refl
         test false true e = lacked refl e
@@ -109,10 +109,28 @@ heads k n m p s = go k
     go struct = self _
     go enum = variant (varint w32 s)
 
-keeps-item : {w : ℕ → List Entry → Told} {f g : ℕ → Spot → Run} (k : Kind) (n m : ℕ) → n ≤ m
-    → ((a : ℕ) → isKnown (following k a) n ≡ true → Keeps (w a) (f a) (g a)) → Keeps (tellItem k n w) (readItem head k n f) (readItem head k m g)
-unfolding tellItem readItem enter runAfter given entries
-keeps-item {w} {f} {g} k n m l h = record { tells = λ x. go x (λ a b u. head-known k n (x .place) (x .bytes) {a = a} {b = b} {u = u}) (heads k n m (x .place) (x .bytes)) }
+-- what a strict reading takes besides is alike under both counts
+judged-heads : (strict : Bool) {k : Kind} {n : ℕ} {i j : Item} → Heads k n i j → Heads k n (judged strict i) (judged strict j)
+unfolding judged strictly pick
+judged-heads false h = h
+judged-heads true neither = neither
+judged-heads true {k} {n} {i} (alike {own} e) = rw e (go (own .shortest))
+  where
+    go : (t : Bool) → Heads k n (pick t (Took own) (Refused NotShortest)) (pick t (Took own) (Refused NotShortest))
+    go true = alike refl
+    go false = neither
+judged-heads true {k} {n} {i} (lacked {own} e t) = rw e (go (own .shortest))
+  where
+    go : (x : Bool) → Heads k n (Refused Variant) (pick x (Took own) (Refused NotShortest))
+    go true = lacked refl t
+    go false = neither
+
+keeps-item : (strict : Bool) {w : ℕ → List Entry → Told} {f g : ℕ → Spot → Run} (k : Kind) (n m : ℕ) → n ≤ m
+    → ((a : ℕ) → isKnown (following k a) n ≡ true → Keeps (w a) (f a) (g a))
+    → Keeps (tellItem k n w) (readItem (headBy strict) k n f) (readItem (headBy strict) k m g)
+unfolding tellItem readItem headBy enter runAfter given entries
+keeps-item strict {w} {f} {g} k n m l h =
+    record { tells = λ x. go x (λ own. head-by-sound strict .knows k n (x .place) (x .bytes) {own = own}) (judged-heads strict (heads k n m (x .place) (x .bytes))) }
   where
     entry : {es : List Entry} {o : Outcome} {old : Run} (e : Entry) → isKnown (following k (e .first)) n ≡ true → Tells (w (e .first)) old es o
         → Tells (tellItem k n w) (runAfter (e ∷ []) old) (e ∷ es) o
@@ -124,10 +142,10 @@ keeps-item {w} {f} {g} k n m l h = record { tells = λ x. go x (λ a b u. head-k
     unknown e t (refused r p) = silent
     unknown e t (reached y) = told {y = y} (λ rest. rw t (lacking [] refl))
 
-    go : (x : Spot) {i j : Item} → ((a b u : ℕ) → i ≡ Took a b u → isKnown (following k a) n ≡ true) → Heads k n i j → Tells (tellItem k n w) (enter i f x) (enter j g x .made) (enter j g x .ends)
+    go : (x : Spot) {i j : Item} → ((own : Own) → i ≡ Took own → isKnown (following k (own .first)) n ≡ true) → Heads k n i j → Tells (tellItem k n w) (enter i f x) (enter j g x .made) (enter j g x .ends)
     go x kn neither = silent
-    go x kn (alike {a} {b} {u} e) = rw e (entry (record { first = a; second = b; place = x .place }) (kn a b u e) (h a (kn a b u e) .tells (past u x)))
-    go x kn (lacked {a} {b} {u} e t) = rw e (unknown (record { first = a; second = b; place = x .place }) t (g a (past u x) .ends))
+    go x kn (alike {own} e) = rw e (entry (entryOf own x) (kn own e) (h (own .first) (kn own e) .tells (past (own .used) x)))
+    go x kn (lacked {own} e t) = rw e (unknown (entryOf own x) t (g (own .first) (past (own .used) x) .ends))
 
 -- ---- shapes that match
 
@@ -135,19 +153,19 @@ keeps-item {w} {f} {g} k n m l h = record { tells = λ x. go x (λ a b u. head-k
 data Old : Type 0 where
   told-by read-by : Old
 
-abbrev olds : Old → Walk
-olds told-by = telling
-olds read-by = reading head
+abbrev olds : (strict : Bool) → Old → Walk
+olds strict told-by = telling
+olds strict read-by = reading (headBy strict)
 
-abbrev news : Unit {0} → Walk
-news _ = reading head
+abbrev news : (strict : Bool) → Unit {0} → Walk
+news strict _ = reading (headBy strict)
 
-keeps : Law olds news (λ f g. Keeps (f told-by) (f read-by) (g tt))
-keeps = record { none = keeps-nothing; both = keeps-then; made = λ f g k n m l. keeps-item k n m l }
+keeps : (strict : Bool) → Law (olds strict) (news strict) (λ f g. Keeps (f told-by) (f read-by) (g tt))
+keeps strict = record { none = keeps-nothing; both = keeps-then; made = λ f g k n m l. keeps-item strict k n m l }
 
 pub own-told : OwnTold
-unfolding tell read
-own-told t x y es rest e = go (rw e at (walk-law keeps (matches-refl t) .tells x))
+unfolding tell
+own-told strict t x y es rest e = go (rw e at (walk-law (keeps strict) (matches-refl t) .tells x))
   where
     end : {u : Told} → Same es rest y es u (reached y) → (ts : List Tag) × (entries ts ≡ es) × (u ≡ kept ts rest)
     end (whole ts a b) = (ts, a, refl)
@@ -156,8 +174,8 @@ own-told t x y es rest e = go (rw e at (walk-law keeps (matches-refl t) .tells x
     go (told s) = end (s rest)
 
 pub matching-whole : MatchingWhole
-unfolding tell read
-matching-whole old new m x y es rest front e w = go (rw e at (walk-law keeps m .tells x))
+unfolding tell
+matching-whole old new m x y es rest front e w = go (rw e at (walk-law (keeps false) m .tells x))
   where
     end : {u : Told} {o : Outcome} {made : List Entry} → u ≡ kept front rest → Same es [] y made u o → (entries front ≡ es) × (rest ≡ [])
     end q (whole ts a b) = (ap entries (sym (cc)) ∙ a, cc)
@@ -186,9 +204,9 @@ part-ahead ts a (part us c d) = part (ts ++ us) (rw (entries-append ts us, a, c)
 part-ahead ts a (Part.lacking us c) = Part.lacking (ts ++ us) (rw (entries-append ts us, a, c))
 
 -- all of the new one's fields are behind the old ones
-begins-end : (ts : Shapes) → Begins tellNothing readNothing (row (reading head) ts)
+begins-end : (strict : Bool) (ts : Shapes) → Begins tellNothing readNothing (row (reading (headBy strict)) ts)
 unfolding tellNothing readNothing entries
-begins-end ts = record { begins = λ x. go x (row-stays head-sound ts x) }
+begins-end strict ts = record { begins = λ x. go x (row-stays (head-by-sound strict) ts x) }
   where
     go : (x : Spot) {es : List Entry} {o : Outcome} → Stays x es o → Begun tellNothing (readNothing x) es o
     go x (reaches n l e s) = begun (part [] refl (sym s))
@@ -234,24 +252,26 @@ begins-once {w} {f} {g} h = record { begins = λ x. rw (then-nothing f x, then-n
     go Begun.silent = Begun.silent
 
 -- a struct's entry in front
-begins-root : {w : List Entry → Told} {f g : Spot → Run} (n m : ℕ) → Begins w f g
-    → Begins (tellItem struct n (λ a. tellThen w tellNothing)) (readItem head struct n (λ a. readThen f readNothing)) (readItem head struct m (λ a. readThen g readNothing))
-unfolding tellItem readItem head enter runAfter given following isKnown entries
-begins-root {w} n m h = record { begins = λ x. go (record { first = 0; second = 0; place = x .place }) (begins-once h .begins (past 0 x)) }
+begins-root : (strict : Bool) {w : List Entry → Told} {f g : Spot → Run} (n m : ℕ) → Begins w f g
+    → Begins (tellItem struct n (λ a. tellThen w tellNothing)) (readItem (headBy strict) struct n (λ a. readThen f readNothing)) (readItem (headBy strict) struct m (λ a. readThen g readNothing))
+unfolding tellItem readItem enter runAfter given following isKnown entries
+begins-root strict {w} n m h =
+    let bare = head-by-sound strict .bare in
+    record { begins = λ x. rw (bare n (x .place) (x .bytes), bare m (x .place) (x .bytes)) (go (record { first = 0; second = 0; place = x .place }) (begins-once h .begins (past 0 x))) }
   where
     go : {old : Run} {es : List Entry} {o : Outcome} (e : Entry) → Begun (tellThen w tellNothing) old es o
         → Begun (tellItem struct n (λ a. tellThen w tellNothing)) (runAfter (e ∷ []) old) (e ∷ es) o
     go e (begun {y} t) = begun {y = y} (part-ahead (record { kind = struct; entry = e } ∷ []) refl t)
     go e Begun.silent = Begun.silent
 
-appending : Appending olds news (λ f g. Keeps (f told-by) (f read-by) (g tt)) (λ f g. Begins (f told-by) (f read-by) (g tt))
-appending = record { whole = begins-whole; end = begins-end; next = begins-then; root = begins-root }
+appending : (strict : Bool) → Appending (olds strict) (news strict) (λ f g. Keeps (f told-by) (f read-by) (g tt)) (λ f g. Begins (f told-by) (f read-by) (g tt))
+appending strict = record { whole = begins-whole; end = begins-end strict; next = begins-then; root = begins-root strict }
 
 -- ---- the law
 
 pub shape-old-reads : ShapeOldReads
-unfolding seen past tell read
-shape-old-reads old new a message es end e = go (rw e at (appends-law keeps appending a .begins (front message)))
+unfolding seen past tell
+shape-old-reads strict old new a message es end e = go (rw e at (appends-law (keeps strict) (appending strict) a .begins (front message)))
   where
     ended : {made fs : List Entry} {t : Told} {o : Outcome} → Part (end .place) made t o → Stays (front message) fs o → seen message (end .place) t ≡ some (record { made = made; ends = o })
     ended (part ts {rest} {z} a b) (reaches n l c s) =
@@ -259,5 +279,5 @@ shape-old-reads old new a message es end e = go (rw e at (appends-law keeps appe
         rw (a, c, zero-add n, q)
     ended (Part.lacking ts a) s = rw a
 
-    go : Begun (tell old) (read old (front message)) es (reached end) → seen message (end .place) (tell old es) ≡ some (read old (front message))
-    go (begun p) = ended p (read-stays head-sound old (front message))
+    go : Begun (tell old) (readWith strict old (front message)) es (reached end) → seen message (end .place) (tell old es) ≡ some (readWith strict old (front message))
+    go (begun p) = ended p (read-stays (head-by-sound strict) old (front message))

@@ -1,6 +1,7 @@
 -- An old reading with a store is seen in the new one, and has the values that the new one's begin with.
 -- Assumes nothing.
 use mathlib.Core.Path.{_≡_, refl, ap, subst, _∙_}
+use mathlib.Core.Bool.{Bool}
 use mathlib.Core.List.{List, [], _++_, map-append, append-nil}
 use mathlib.Core.List as lists
 use mathlib.Core.Option.{some}
@@ -9,10 +10,10 @@ use native.Mathlib.Omega.{arith}
 use lib.ListN.{length, length-append}
 use Rattle.wire.specs.Shape.{Shape}
 use Rattle.wire.specs.Values.{Entry, Tag, Told, kept, lacks, short, tell, Value, valueOf, valued, values}
-use Rattle.wire.specs.Reading.{Spot, front, reached, Run, read, fit}
+use Rattle.wire.specs.Reading.{Spot, front, reached, Run, fit}
 use Rattle.laws.proofs.Runs.{within-reached, within-refused, fit-reached}
 use Rattle.promises.specs.OldNew.{entries}
-use Rattle.promises.specs.Shapes.{seen, ShapeOldReadsWithin, OldValues, all-kept, cut, ShapeNeverAnother}
+use Rattle.promises.specs.Shapes.{readWith, seen, ShapeOldReadsWithin, OldValues, all-kept, cut, ShapeNeverAnother}
 use Rattle.promises.specs.Telling.{over}
 use Rattle.promises.proofs.Told.{tells-all, kept-again, lacks-again}
 use Rattle.promises.proofs.ShapeReads.{own-told, shape-old-reads}
@@ -32,27 +33,27 @@ seen-within room message end (lacks ts x rest) r h l e = fit-same room (within-r
 seen-within room message end (short ts) r h l e = cc
 
 pub shape-old-reads-within : ShapeOldReadsWithin
-shape-old-reads-within old new a room message es end e =
-    let enough = fit-reached room (read new (front message)) es end e in
-    seen-within room message (end .place) (tell old es) _ (tells-all old es) (enough .0) (shape-old-reads old new a message es end (enough .1))
+shape-old-reads-within strict old new a room message es end e =
+    let enough = fit-reached room (readWith strict new (front message)) es end e in
+    seen-within room message (end .place) (tell old es) _ (tells-all old es) (enough .0) (shape-old-reads strict old new a message es end (enough .1))
 
 -- ---- the values
 
 -- the new reading's values are all of its entries'
-new-whole : (new : Shape) (message : List ℕ) (es : List Entry) (end : Spot)
-    → read new (front message) ≡ record { made = es; ends = reached end } → (ts : List Tag) × (tell new es ≡ kept ts [])
-new-whole new message es end e = let own = own-told new (front message) end es [] e in (own .0, rw (append-nil es) at (own .2))
+new-whole : (strict : Bool) (new : Shape) (message : List ℕ) (es : List Entry) (end : Spot)
+    → readWith strict new (front message) ≡ record { made = es; ends = reached end } → (ts : List Tag) × (tell new es ≡ kept ts [])
+new-whole strict new message es end e = let own = own-told strict new (front message) end es [] e in (own .0, rw (append-nil es) at (own .2))
 
 pub shape-never-another : ShapeNeverAnother
 unfolding seen values valued tags
-shape-never-another old new a room message es end e = (
+shape-never-another strict old new a room message es end e = (
   vs,
   rw (own .1),
-  go (tell old es) refl (shape-old-reads-within old new a room message es end e),
+  go (tell old es) refl (shape-old-reads-within strict old new a room message es end e),
 )
   where
     own : (ts : List Tag) × (tell new es ≡ kept ts [])
-    own = new-whole new message es end (fit-reached room (read new (front message)) es end e .1)
+    own = new-whole strict new message es end (fit-reached room (readWith strict new (front message)) es end e .1)
 
     begin : (more : List Tag) × (own .0 ≡ tags (tell old es) ++ more)
     begin = rw (own .1) at (tags-begin a es)

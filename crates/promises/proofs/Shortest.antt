@@ -7,7 +7,7 @@ use Rattle.laws.proofs.Varints.{took-in, varint-least}
 use Rattle.promises.specs.RoundTrip.{Shortest}
 
 pub shortest-law : Shortest
-shortest-law w s x b n bytes e =
+shortest-law w s own bytes e =
     let v = varint-least w s bytes e in
     let there = took-in w s e .within in
-    (v .least, (v .only, λ is. sym (length-take-le n s there) ∙ ap length is))
+    (v .least, (v .only, λ is. sym (length-take-le (own .used) s there) ∙ ap length is))

@@ -41,15 +41,15 @@ entries-right (e ∷ es) fs h = entries-right es fs (h .2)
 pub record Tells (u : List Entry → Told) (es : List Entry) (ts : List Tag) : Type 0 where
   pub told : (rest : List Entry) → u (es ++ rest) ≡ kept ts rest
 
-nothing-tells : Tells tellNothing [] []
+pub nothing-tells : Tells tellNothing [] []
 unfolding tellNothing
 nothing-tells = record { told = λ rest. refl }
 
-then-tells : {u v : List Entry → Told} {es fs : List Entry} {ts us : List Tag} → Tells u es ts → Tells v fs us → Tells (tellThen u v) (es ++ fs) (ts ++ us)
+pub then-tells : {u v : List Entry → Told} {es fs : List Entry} {ts us : List Tag} → Tells u es ts → Tells v fs us → Tells (tellThen u v) (es ++ fs) (ts ++ us)
 unfolding tellThen tellOn toldAfter
 then-tells {es} {fs} {ts} {us} a b = record { told = λ rest. rw (append-assoc es fs rest, a .told (fs ++ rest), b .told rest) }
 
-item-tells : (k : Kind) (n : ℕ) (next : ℕ → List Entry → Told) (e : Entry) {es : List Entry} {ts : List Tag} → isKnown (following k (e .first)) n ≡ true
+pub item-tells : (k : Kind) (n : ℕ) (next : ℕ → List Entry → Told) (e : Entry) {es : List Entry} {ts : List Tag} → isKnown (following k (e .first)) n ≡ true
     → Tells (next (e .first)) es ts → Tells (tellItem k n next) (e ∷ es) (record { kind = k; entry = e } ∷ ts)
 unfolding tellItem toldAfter given
 item-tells k n next e h a = record { told = λ rest. rw (h, a .told rest) }

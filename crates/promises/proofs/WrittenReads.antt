@@ -13,9 +13,10 @@ use Rattle.wire.specs.Shape.{Shape}
 use Rattle.wire.specs.Table.{check, shapeOf}
 use Rattle.wire.specs.Values.{Tag, kept, tell, valueOf, whole, SameValues}
 use Rattle.wire.specs.Reading.{reached, read, fit}
-use Rattle.wire.specs.Answers.{wordsPer, entriesOf, roomOf, readBy, reads, storeWith, form, writes}
+use Rattle.wire.specs.Answers.{wordsPer, entriesOf, roomOf, reads, storeWith, form, writes}
 use Rattle.laws.specs.Range.{AreWords}
 use Rattle.laws.proofs.Runs.{within-reached}
+use Rattle.laws.proofs.ReadBy.{reads-plain}
 use Rattle.laws.proofs.Places.{words-entries, length-entries, front-words}
 use Rattle.promises.specs.Places.{places, Stand}
 use Rattle.promises.proofs.Trips.{Again}
@@ -35,7 +36,7 @@ pub record WrittenReads (table ws pool s rest store : List ℕ) : Type 0 where
 
 pub written-reads : (table ws pool : List ℕ) (room : ℕ) (s rest store : List ℕ) → AreWords ws → writes table ws pool room ≡ form s → length ws ≤ length store
     → WrittenReads table ws pool s rest store
-unfolding reads readBy fit roomOf
+unfolding reads fit roomOf
 written-reads table ws pool room s rest store ok e fits =
     record {
       layout = w .layout;
@@ -65,7 +66,7 @@ written-reads table ws pool room s rest store ok e fits =
     many = ap (wordsPer *_) (a .many) ∙ length-entries ws (w .even)
 
     is : reads table (s ++ rest) store ≡ record { made = a .made; ends = reached (record { bytes = rest; place = length s }) }
-    is = rw (w .is-good, a .reads, zero-add) (within-reached (length store / wordsPer) (a .made) _ (omega (arith, many)))
+    is = rw (w .is-good, reads-plain, a .reads, zero-add) (within-reached (length store / wordsPer) (a .made) _ (omega (arith, many)))
 
     same : SameValues t pool (entriesOf ws) (s ++ rest) (a .made)
     same =

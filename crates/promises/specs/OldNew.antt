@@ -49,8 +49,12 @@ pub data OldMakes (t : Shape) (message : List ℕ) (end : ℕ) (es : List Entry)
 -- For such a pair, any message read fully under the new table gives under the old one the same values without the appended fields,
 -- the rest being all bytes behind those values; or, exactly if a kept enum item has a variant that the old table lacks,
 -- it is refused as unknown variant at the first such item. Never a different value.
-abbrev pub OldTableReads : Type 0
-OldTableReads = (old new : List ℕ) → asks old new ≡ Says true → (message store : List ℕ) (es : List Entry) (end : Spot)
+abbrev pub OldReads : (reads : (table message store : List ℕ) → Run) → Type 0
+OldReads reads = (old new : List ℕ) → asks old new ≡ Says true → (message store : List ℕ) (es : List Entry) (end : Spot)
     → reads new message store ≡ record { made = es; ends = reached end }
     → (l m : Layout) × (check old ≡ Good l) × (check new ≡ Good m) × (vs : List Value) × (values (shapeOf new m) message es ≡ whole vs)
     × OldMakes (shapeOf old l) message (end .place) es vs (reads old message store)
+
+-- So it is with the reader's call.
+abbrev pub OldTableReads : Type 0
+OldTableReads = OldReads reads

@@ -7,6 +7,7 @@ use Prim.Native.Nat.{ℕ, _*_, _≤_}
 use lib.ListN.{length, take}
 use Rattle.wire.specs.declared.Layout.{Layout}
 use Rattle.wire.specs.declared.Checked.the-variants.{Good}
+use Rattle.wire.specs.declared.Own.{Own}
 use Rattle.wire.specs.declared.Item.the-variants.{Took}
 use Rattle.wire.specs.declared.ReadAnswer.{ReadAnswer}
 use Rattle.wire.specs.declared.ReadAnswer.the-variants.{Done as Read}
@@ -54,7 +55,7 @@ SameBytes = (table ws ws′ pool pool′ : List ℕ) (room room′ : ℕ) (s s�
     → writes table ws pool room ≡ form s → writes table ws′ pool′ room′ ≡ form s′
     → SameValues (shapeOf table l) pool (entriesOf ws) pool′ (entriesOf ws′) → s ≡ s′
 
--- Whatever varint is read as x, the one that is written is no longer, and no other is as short.
+-- Whatever varint is read as a number, the one that is written is no longer, and no other is as short.
 abbrev pub Shortest : Type 0
-Shortest = (w : Width) (s : List ℕ) (x b n : ℕ) → AreBytes s → varint w s ≡ Took x b n
-    → (length (shortest x) ≤ n) × ((n ≡ length (shortest x)) ↔ (take n s ≡ shortest x))
+Shortest = (w : Width) (s : List ℕ) (own : Own) → AreBytes s → varint w s ≡ Took own
+    → (length (shortest (own .first)) ≤ own .used) × ((own .used ≡ length (shortest (own .first))) ↔ (take (own .used) s ≡ shortest (own .first)))

@@ -1,10 +1,12 @@
 -- Laws about telling entries apart by one shape; no promise.
 -- Assumes nothing.
 use mathlib.Core.Path.{_≡_}
+use mathlib.Core.Bool.{Bool}
 use mathlib.Core.List.{List, [], _∷_, _++_}
 use Rattle.wire.specs.Shape.{Shape}
+use Rattle.wire.specs.Walk.{walk}
 use Rattle.wire.specs.Values.{Entry, Tag, Told, kept, lacks, short, tell}
-use Rattle.wire.specs.Reading.{Spot, reached, read}
+use Rattle.wire.specs.Reading.{headBy, Spot, reached, reading}
 use Rattle.promises.specs.OldNew.{entries}
 
 -- the entries that were told apart
@@ -19,8 +21,8 @@ TellsAll = (t : Shape) (es : List Entry) → over (tell t es) ≡ es
 
 -- What a shape's reading made it tells as its own, whatever follows.
 abbrev pub OwnTold : Type 0
-OwnTold = (t : Shape) (x y : Spot) (es rest : List Entry)
-    → read t x ≡ record { made = es; ends = reached y } → (ts : List Tag) × (entries ts ≡ es) × (tell t (es ++ rest) ≡ kept ts rest)
+OwnTold = (strict : Bool) (t : Shape) (x y : Spot) (es rest : List Entry)
+    → walk (reading (headBy strict)) t x ≡ record { made = es; ends = reached y } → (ts : List Tag) × (entries ts ≡ es) × (tell t (es ++ rest) ≡ kept ts rest)
 
 -- Entries that are a shape's value are that value by themselves.
 abbrev pub KeptAgain : Type 0

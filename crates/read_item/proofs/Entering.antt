@@ -8,12 +8,13 @@ use native.Mathlib.Omega.{arith}
 use lib.ListN.{length}
 use Rattle.wire.specs.declared.Refusal.{Refusal}
 use Rattle.wire.specs.declared.Refusal.the-variants.{Room}
+use Rattle.wire.specs.declared.Own.{Own}
 use Rattle.wire.specs.declared.Item.{Item}
 use Rattle.wire.specs.declared.Item.the-variants.{Took, Refused}
 use Rattle.wire.specs.declared.Layout.{Layout}
 use Rattle.wire.specs.Walk.{each, following, isKnown, times, along, walks}
 use Rattle.wire.specs.Table.{kindOf, Node, nodeAt, recordOf}
-use Rattle.wire.specs.Reading.{Head, Spot, reached, refused, past, enter, readItem, reading}
+use Rattle.wire.specs.Reading.{Head, Spot, reached, refused, past, entryOf, enter, readItem, reading}
 use Rattle.laws.specs.Bounds.{Fits, takes}
 use Rattle.laws.specs.Heads.{Sound}
 use Rattle.laws.specs.KindRanges.{IsInner}
@@ -38,19 +39,19 @@ pub record Found (r : Node) (number n : ℕ) : Type 0 where
   pub kind : number ≡ r .number
   pub count : n ≡ nodeCount r
 
-module _ {r : Node} {k n : ℕ} (f : Found r k n) (h : Head) (bs : List ℕ) (p : ℕ) {own : Item} (found : own ≡ h (kindOf k) n p bs) where
-  own-is : ownOf h r (spot bs p) ≡ own
+module _ {r : Node} {k n : ℕ} (f : Found r k n) (h : Head) (bs : List ℕ) (p : ℕ) {got : Item} (found : got ≡ h (kindOf k) n p bs) where
+  own-is : ownOf h r (spot bs p) ≡ got
   unfolding ownOf
   own-is = sym (found ∙ ap₂ (λ (k n : ℕ). h (kindOf k) n p bs) (f .kind) (f .count))
 
   module _ {l : Layout} {i m : ℕ} {s : List ℕ} where
-    pub enters-same : {e : Refusal} → own ≡ Refused e → Enters l i r p m s (ownOf h r (spot bs p)) (Refusing e) s
+    pub enters-same : {e : Refusal} → got ≡ Refused e → Enters l i r p m s (ownOf h r (spot bs p)) (Refusing e) s
     enters-same q = rw (own-is ∙ q) stops
 
-    pub enters-on : {a b u : ℕ} (from : ℕ) {to : Stretch} {t : List ℕ} → own ≡ Took a b u → from ≡ nodeFirst l i r → to ≡ followed (following (kindOf k) a) from n → t ≡ withEntry a b p m s
-        → Enters l i r p m s (ownOf h r (spot bs p)) (On to u) t
-    enters-on {a} {b} {u} from {to} q first follows put =
-        let after : to ≡ afterOf l i r a = unfold afterOf in (follows ∙ rw (first, f .kind, f .count)) in
+    pub enters-on : {own : Own} (from : ℕ) {to : Stretch} {t : List ℕ} → got ≡ Took own → from ≡ nodeFirst l i r → to ≡ followed (following (kindOf k) (own .first)) from n
+        → t ≡ withEntry (own .first) (own .second) p m s → Enters l i r p m s (ownOf h r (spot bs p)) (On to (own .used)) t
+    enters-on {own} from {to} q first follows put =
+        let after : to ≡ afterOf l i r (own .first) = unfold afterOf in (follows ∙ rw (first, f .kind, f .count)) in
         rw (own-is ∙ q, after, put) goes
 
 module _ {s : List ℕ} {l : Layout} {i : ℕ} (g : GoodTable s l) (below : i < l .nodes) where
@@ -88,30 +89,30 @@ module _ (h : Head) (room : ℕ) {s : List ℕ} {l : Layout} {i : ℕ} (g : Good
     unfolding enter
     item-refused {e} q = entered q ∙ lay-refused room m store e (x .place) some
 
-    took : {a b u : ℕ} → ownOf h node x ≡ Took a b u → lay room (nodeStep (reading h) s l i x) m store
-        ≡ lay room (along (reading h) (following (nodeKind node) a) (walks (reading h) (nodeShapes s l i node)) (past u x)) (m + 1) (withEntry a b (x .place) m store)
+    took : {own : Own} → ownOf h node x ≡ Took own → lay room (nodeStep (reading h) s l i x) m store
+        ≡ lay room (along (reading h) (following (nodeKind node) (own .first)) (walks (reading h) (nodeShapes s l i node)) (past (own .used) x)) (m + 1) (withEntry (own .first) (own .second) (x .place) m store)
     unfolding enter withEntry
-    took {a} {b} q = entered q ∙ lay-entry room m store (record { first = a; second = b; place = x .place }) _ some
+    took {own} q = entered q ∙ lay-entry room m store (entryOf own x) _ some
 
-    pub item-goes : Sound h → {a b u : ℕ} → ownOf h node x ≡ Took a b u
-        → Goes h room (lay room (nodeStep (reading h) s l i x) m store) s l i x m (afterOf l i node a) u (withEntry a b (x .place) m store)
+    pub item-goes : Sound h → {own : Own} → ownOf h node x ≡ Took own
+        → Goes h room (lay room (nodeStep (reading h) s l i x) m store) s l i x m (afterOf l i node (own .first)) (own .used) (withEntry (own .first) (own .second) (x .place) m store)
     unfolding afterOf
-    item-goes sound {a} {b} {u} q =
-        let own : h (nodeKind node) (nodeCount node) (x .place) (x .bytes) ≡ Took a b u = unfold ownOf in q in
-        let knows : isKnown (following (nodeKind node) a) (nodeCount node) ≡ true = sound .knows (nodeKind node) (nodeCount node) (x .place) (x .bytes) own in
+    item-goes sound {own} q =
+        let taken : h (nodeKind node) (nodeCount node) (x .place) (x .bytes) ≡ Took own = unfold ownOf in q in
+        let knows : isKnown (following (nodeKind node) (own .first)) (nodeCount node) ≡ true = sound .knows (nodeKind node) (nodeCount node) (x .place) (x .bytes) taken in
         record {
-          inside = ends (rw own at (sound .inside (nodeKind node) (nodeCount node) (x .place) (x .bytes)));
-          falls = falls-followed (node-falls g below) (following (nodeKind node) a) knows;
-          rest = took q ∙ ap (λ r. lay room r (m + 1) (withEntry a b (x .place) m store)) (along-followed (reading h) s l then-nothing _ _ _ knows (past u x));
+          inside = ends (rw taken at (sound .inside (nodeKind node) (nodeCount node) (x .place) (x .bytes)));
+          falls = falls-followed (node-falls g below) (following (nodeKind node) (own .first)) knows;
+          rest = took q ∙ ap (λ r. lay room r (m + 1) (withEntry (own .first) (own .second) (x .place) m store)) (along-followed (reading h) s l then-nothing _ _ _ knows (past (own .used) x));
         }
       where
-        ends : Fits (x .bytes) (Took a b u) → u ≤ length (x .bytes)
+        ends : Fits (x .bytes) (Took own) → own .used ≤ length (x .bytes)
         ends (takes l) = l
 
     -- nothing follows a leaf
-    pub item-alone : {a b u : ℕ} → (IsInner (node .number) → ⊥) → ownOf h node x ≡ Took a b u
-        → lay room (nodeStep (reading h) s l i x) m store ≡ left (reached (past u x)) (m + 1) (withEntry a b (x .place) m store)
+    pub item-alone : {own : Own} → (IsInner (node .number) → ⊥) → ownOf h node x ≡ Took own
+        → lay room (nodeStep (reading h) s l i x) m store ≡ left (reached (past (own .used) x)) (m + 1) (withEntry (own .first) (own .second) (x .place) m store)
     unfolding along times
-    item-alone {a} {b} {u} outer q =
-        let none : following (nodeKind node) a ≡ each 0 = unfold following in outer-kinds (λ q. following q a ≡ each 0) (λ x. refl) (λ c. refl) (node .number) outer in
-        took q ∙ rw none (lay-nothing room (past u x) (m + 1) (withEntry a b (x .place) m store))
+    item-alone {own} outer q =
+        let none : following (nodeKind node) (own .first) ≡ each 0 = unfold following in outer-kinds (λ q. following q (own .first) ≡ each 0) (λ x. refl) (λ c. refl) (node .number) outer in
+        took q ∙ rw none (lay-nothing room (past (own .used) x) (m + 1) (withEntry (own .first) (own .second) (x .place) m store))

@@ -1,31 +1,32 @@
 -- What an item's own bytes are, by its kind's number, and of a variant's number.
 -- Assumes nothing.
 use mathlib.Core.Path.{_≡_, refl, sym, ap, _∙_}
-use mathlib.Core.Bool.{true}
+use mathlib.Core.Bool.{Bool, true, false, not}
 use mathlib.Core.List.{List}
-use Prim.Native.Nat.{ℕ, _+_, _<_, _≤_, _^_}
+use Prim.Native.Nat.{ℕ, suc, _+_, _<_, _≤_, _^_}
 use native.Mathlib.Omega.{arith}
 use lib.ListN.{length}
 use lib.Dec.{ltb}
 use borrow.Author.Tests.{lt-ltb, le-ltb}
 use Rattle.wire.specs.declared.Refusal.{Refusal}
-use Rattle.wire.specs.declared.Refusal.the-variants.{BadOption, Variant}
+use Rattle.wire.specs.declared.Refusal.the-variants.{BadOption, Variant, NotShortest}
+use Rattle.wire.specs.declared.Own.{Own}
 use Rattle.wire.specs.declared.Item.{Item}
 use Rattle.wire.specs.declared.Item.the-variants.{Took, Refused}
 use Rattle.wire.specs.declared.ReadAnswer.the-variants.{Done, Refused as NotRead}
-use Rattle.wire.specs.Tests.{pick}
-use Rattle.wire.specs.Shape.{w32, w64}
-use Rattle.wire.specs.Numbers.{varint}
+use Rattle.wire.specs.Tests.{pick, both}
+use Rattle.wire.specs.Shape.{w32, w64, Kind}
+use Rattle.wire.specs.Numbers.{varint, took}
 use Rattle.wire.specs.Table.{kinds, kindOf}
-use Rattle.wire.specs.Reading.{flag, known, head}
+use Rattle.wire.specs.Reading.{flag, known, head, strictly, judged, headBy}
 use Rattle.laws.specs.Bounds.{Fits, takes}
-use Rattle.laws.specs.KindRanges.{IsInner, isLeaf}
-use Rattle.laws.proofs.Splits.{by-lt, of-pick}
-use Rattle.laws.proofs.Bounds.{head-fits}
+use Rattle.laws.specs.KindRanges.{IsInt, IsInner, isLeaf}
+use Rattle.laws.proofs.Splits.{by-lt, of-pick, not-both}
+use Rattle.laws.proofs.Bounds.{head-fits, judged-took}
 use Rattle.laws.proofs.EachKind.{end, _&_, in-kinds, outer-kinds}
 use Rattle.entry.specs.Words.{withEntry}
 use Rattle.leaf.specs.Leaves.{takeAt}
-use Rattle.leaf.proofs.Leaves.{low-leaf, high-leaf, is-leaf}
+use Rattle.leaf.proofs.Leaves.{low-leaf, high-leaf, is-leaf, low-place}
 use Rattle.read_item.specs.Steps.{Puts, entry, same}
 
 -- ---- a variant's number
@@ -35,13 +36,57 @@ module _ (n : ℕ) (i : Item) where
   unfolding known
   known-refused p = p ∙ ap (known n) (sym p)
 
-  pub known-good : {v b u : ℕ} → i ≡ Took v b u → v < n → Took v b u ≡ known n i
+  pub known-good : {own : Own} → i ≡ Took own → own .first < n → Took own ≡ known n i
   unfolding known pick
-  known-good {v} p h = rw (p, lt-ltb v n h)
+  known-good p h = rw (p, lt-ltb _ n h)
 
-  pub known-not : {v b u : ℕ} → i ≡ Took v b u → n ≤ v → Refused Variant ≡ known n i
+  pub known-not : {own : Own} → i ≡ Took own → n ≤ own .first → Refused Variant ≡ known n i
   unfolding known pick
-  known-not {v} p h = rw (p, le-ltb v n h)
+  known-not p h = rw (p, le-ltb _ n h)
+
+-- an integer's number that is none of the first seven, one after the other
+above : (k n : ℕ) → n ≤ k → (k ≡ n → ⊥) → suc n ≤ k
+above k n h differs = omega (arith, differs)
+
+last-of : (k : ℕ) → 8 ≤ k → k ≤ 8 → k ≡ 8
+last-of k l h = omega arith
+
+pub eighth : (k : ℕ) → IsInt k → (k ≡ 1 → ⊥) → (k ≡ 2 → ⊥) → (k ≡ 3 → ⊥) → (k ≡ 4 → ⊥) → (k ≡ 5 → ⊥) → (k ≡ 6 → ⊥) → (k ≡ 7 → ⊥) → k ≡ 8
+eighth k h one two three four five six seven =
+    last-of k (above k 7 (above k 6 (above k 5 (above k 4 (above k 3 (above k 2 (above k 1 (h .0) one) two) three) four) five) six) seven) (h .1)
+
+-- ---- a form that is not the shortest
+
+module _ (strict : Bool) (i : Item) where
+  pub judged-refused : {e : Refusal} → i ≡ Refused e → i ≡ judged strict i
+  unfolding judged strictly
+  judged-refused {e} p = p ∙ sym (ap (judged strict) p ∙ stays strict)
+    where
+      stays : (s : Bool) → judged s (Refused e) ≡ Refused e
+      stays true = refl
+      stays false = refl
+
+  pub judged-longer : {own : Own} → i ≡ Took own → both strict (not (own .shortest)) ≡ true → Refused NotShortest ≡ judged strict i
+  unfolding judged strictly pick both
+  judged-longer {own} p h = sym (ap (judged strict) p ∙ longer strict (own .shortest) refl h)
+    where
+      longer : (s t : Bool) → own .shortest ≡ t → both s (not t) ≡ true → judged s (Took own) ≡ Refused NotShortest
+      longer true true e q = not-both q refl
+      longer true false e q = rw e
+      longer false t e q = not-both q refl
+
+  pub judged-taken : {own : Own} → i ≡ Took own → both strict (not (own .shortest)) ≡ false → Took own ≡ judged strict i
+  unfolding judged strictly pick both
+  judged-taken {own} p h = sym (ap (judged strict) p ∙ taken strict (own .shortest) refl h)
+    where
+      taken : (s t : Bool) → own .shortest ≡ t → both s (not t) ≡ false → judged s (Took own) ≡ Took own
+      taken true true e q = rw e
+      taken true false e q = not-both refl q
+      taken false t e q = refl
+
+pub judged-head : (strict : Bool) (k : Kind) (n p : ℕ) (s : List ℕ) {i j : Item} → j ≡ judged strict i → i ≡ head k n p s → j ≡ headBy strict k n p s
+unfolding headBy
+judged-head strict k n p s q e = q ∙ ap (judged strict) e
 
 -- ---- an item in the store
 
@@ -49,7 +94,7 @@ module _ {p m : ℕ} {s : List ℕ} {i : Item} where
   pub puts-same : {e : Refusal} → i ≡ Refused e → Puts p m s i (NotRead e p m) s
   puts-same q = rw q same
 
-  pub puts-entry : {a b n : ℕ} {t : List ℕ} → i ≡ Took a b n → t ≡ withEntry a b p m s → Puts p m s i (Done (p + n) (m + 1)) t
+  pub puts-entry : {own : Own} {t : List ℕ} → i ≡ Took own → t ≡ withEntry (own .first) (own .second) p m s → Puts p m s i (Done (p + own .used) (m + 1)) t
   puts-entry q put = rw (q, put) entry
 
 -- ---- by number
@@ -63,7 +108,7 @@ module _ (n p : ℕ) (s : List ℕ) (k : ℕ) where
   unfolding head kinds
   head-count g h = in-kinds (λ q. varint w64 s ≡ head q n p s) 16 2 refl (refl & refl & end) k g h
 
-  pub head-struct : k ≡ 18 → Took 0 0 0 ≡ head (kindOf k) n p s
+  pub head-struct : k ≡ 18 → took 0 0 0 ≡ head (kindOf k) n p s
   unfolding head kindOf kinds
   head-struct e = rw e
 
@@ -84,16 +129,23 @@ module _ (p : ℕ) (s : List ℕ) (k : ℕ) where
   pub low-number : (j : ℕ) → k ≡ j → j < 15 → p + length s < 2 ^ 64 → {r : Item} → r ≡ head (kindOf j) 0 p s → r ≡ takeAt k p s
   low-number j e low fits q = is-leaf k p s fits (low-leaf k (omega arith)) (rw e q)
 
+  -- an integer's item does not depend on its place
+  pub int-here : IsInt k → p + length s < 2 ^ 64 → {r : Item} → r ≡ head (kindOf k) 0 0 s → r ≡ takeAt k p s
+  int-here h fits q = low-number k refl (omega (arith, h .1)) fits (q ∙ low-place k p s (omega (arith, h .1)))
+
   -- a leaf's item ends inside the part
-  pub leaf-inside : {a b u : ℕ} → takeAt k p s ≡ Took a b u → u ≤ length s
+  pub leaf-inside-plain : {own : Own} → takeAt k p s ≡ Took own → own .used ≤ length s
   unfolding takeAt
-  leaf-inside {a} {b} {u} =
-      of-pick (λ i. i ≡ Took a b u → u ≤ length s) (ltb (p + length s) (2 ^ 64)) _ _
-      (λ _. of-pick (λ i. i ≡ Took a b u → u ≤ length s) (isLeaf k) _ _ (λ _ q. ends (rw q at (head-fits (kindOf k) 0 p s))) (λ _ q. never q))
+  leaf-inside-plain {own} =
+      of-pick (λ i. i ≡ Took own → own .used ≤ length s) (ltb (p + length s) (2 ^ 64)) _ _
+      (λ _. of-pick (λ i. i ≡ Took own → own .used ≤ length s) (isLeaf k) _ _ (λ _ q. ends (rw q at (head-fits (kindOf k) 0 p s))) (λ _ q. never q))
       (λ _ q. never q)
     where
-      ends : Fits s (Took a b u) → u ≤ length s
+      ends : Fits s (Took own) → own .used ≤ length s
       ends (takes l) = l
 
-      never : {e : Refusal} → Refused e ≡ Took a b u → u ≤ length s
+      never : {e : Refusal} → Refused e ≡ Took own → own .used ≤ length s
       never q = let z : _≡_ {A = ℕ} 0 1 = cc in absurd (omega arith)
+
+  pub leaf-inside : (strict : Bool) {own : Own} → judged strict (takeAt k p s) ≡ Took own → own .used ≤ length s
+  leaf-inside strict e = leaf-inside-plain (judged-took strict (takeAt k p s) e)

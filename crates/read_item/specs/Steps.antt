@@ -4,6 +4,7 @@ use mathlib.Core.Path.{_≡_}
 use mathlib.Core.List.{List}
 use Prim.Native.Nat.{ℕ, _+_}
 use Rattle.wire.specs.declared.Refusal.{Refusal}
+use Rattle.wire.specs.declared.Own.{Own}
 use Rattle.wire.specs.declared.Item.{Item}
 use Rattle.wire.specs.declared.Item.the-variants.{Took, Refused as NotTaken}
 use Rattle.wire.specs.declared.Layout.{Layout}
@@ -38,10 +39,10 @@ afterOf l i r a = followed (following (nodeKind r) a) (nodeFirst l i r) (nodeCou
 
 -- What a leaf's own item at the place p leaves behind m entries: its entry, or its refusal and nothing else.
 pub data Puts (p m : ℕ) (s : List ℕ) : Item → ReadAnswer → List ℕ → Type 0 where
-  entry : {a b n : ℕ} → Puts p m s (Took a b n) (Done (p + n) (m + 1)) (withEntry a b p m s)
+  entry : {own : Own} → Puts p m s (Took own) (Done (p + own .used) (m + 1)) (withEntry (own .first) (own .second) p m s)
   same : {e : Refusal} → Puts p m s (NotTaken e) (NotRead e p m) s
 
 -- What the own item of the node i at the place p leaves behind m entries: its entry and the stretch that follows it, or the same.
 pub data Enters (l : Layout) (i : ℕ) (r : Node) (p m : ℕ) (s : List ℕ) : Item → Entered → List ℕ → Type 0 where
-  goes : {a b n : ℕ} → Enters l i r p m s (Took a b n) (On (afterOf l i r a) n) (withEntry a b p m s)
+  goes : {own : Own} → Enters l i r p m s (Took own) (On (afterOf l i r (own .first)) (own .used)) (withEntry (own .first) (own .second) p m s)
   stops : {e : Refusal} → Enters l i r p m s (NotTaken e) (Refused e) s

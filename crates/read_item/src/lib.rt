@@ -2,14 +2,17 @@
 use table::Stretch;
 use wire::Item;
 use wire::Layout;
+use wire::Own;
 use wire::ReadAnswer;
 use wire::Refusal;
 ghost use mathlib.Core.Path.{_≡_};
+ghost use mathlib.Core.Bool.{not};
 ghost use Prim.Native.Nat.{_+_, _^_, _<_};
 ghost use lib.ListN.{length};
+ghost use Rattle.wire.specs.Tests.{both};
 ghost use Rattle.wire.specs.Table.{kindOf, nodeAt, recordOf};
-ghost use Rattle.wire.specs.Reading.{known as knownOf, head as headOf};
-ghost use Rattle.laws.specs.KindRanges.{IsInner};
+ghost use Rattle.wire.specs.Reading.{known as knownOf, head as headOf, judged, headBy};
+ghost use Rattle.laws.specs.KindRanges.{IsInt, isInt, IsInner};
 ghost use Rattle.laws.specs.Tables.{GoodTable};
 ghost use Rattle.leaf.specs.Leaves.{takeAt};
 ghost use Rattle.read_item.specs.Steps.{spot, Inner, ownOf, Puts, Enters};
@@ -26,19 +29,18 @@ pub enum Entered {
 fn known(count: usize, got: Item) -> Item
     ensures { λ r. ⌜ r ≡ knownOf count got ⌝ }
 {
-    let Item::Took {
-        first,
-        second,
-        used,
-    } = got
-    else {
+    let Item::Took { own } = got else {
         return got;
     };
-    if first < count as u64 {
+    if own.first < count as u64 {
+        // Made anew, so that it stays in registers.
         return Item::Took {
-            first,
-            second,
-            used,
+            own: Own {
+                first: own.first,
+                second: own.second,
+                used: own.used,
+                shortest: own.shortest,
+            },
         };
     }
     Item::Refused {
@@ -54,27 +56,70 @@ fn head_bytes(number: u8, count: usize, part: &[u8], place: usize) -> Item
     match number {
         15 => leaf::take_flag(part, Refusal::BadOption),
         18 => Item::Took {
-            first: 0,
-            second: 0,
-            used: 0,
+            own: Own {
+                first: 0,
+                second: 0,
+                used: 0,
+                shortest: true,
+            },
         },
         19 => known(count, varint::take_u32(part)),
         _ => varint::take(part, varint::U64::MOST, varint::U64::LAST),
     }
 }
 
-// A leaf's item by a call. The part is lent from here, so that a caller which doesn't come here keeps its own in registers.
-fn by_call(number: u8, part: &[u8], place: usize) -> Item
-    ensures { λ r. ⌜ r ≡ takeAt number place (now (part .entry)) ⌝ }
+// ---- forms
+
+// Whether a strict reading refuses an item that was taken, for its form.
+fn is_longer(strict: bool, shortest: bool) -> bool
+    ensures { λ r. ⌜ r ≡ both strict (not shortest) ⌝ }
 {
-    leaf::anew(leaf::take(number, part, place))
+    if strict {
+        return !shortest;
+    }
+    false
 }
 
-// The own bytes of a leaf whose first byte stands at `place`. The integers are taken here, as `leaf::take` does it: that
-// has several callers and so stays a call, which costs more than most integers.
-fn leaf_bytes(number: u8, part: &[u8], place: usize) -> Item
-    requires { ⌜ place + length (now part) < 2 ^ 64 ⌝ }
-    ensures { λ r. ⌜ r ≡ takeAt number place (now (part .entry)) ⌝ }
+// An item as a strict reading takes it, or as the plain one does: a form that isn't the shortest is refused, after every other
+// refusal of the item. It is made anew, so that one that a call left in memory goes on in registers.
+fn judge(strict: bool, got: Item) -> Item
+    ensures { λ r. ⌜ r ≡ judged strict got ⌝ }
+{
+    let Item::Took { own } = got else {
+        return got;
+    };
+    if is_longer(strict, own.shortest) {
+        return Item::Refused {
+            why: Refusal::NotShortest,
+        };
+    }
+    Item::Took {
+        own: Own {
+            shortest: own.shortest,
+            first: own.first,
+            second: own.second,
+            used: own.used,
+        },
+    }
+}
+
+// ---- a leaf
+
+// Whether a kind is an integer that isn't of fixed size.
+pub fn is_int(number: u8) -> bool
+    ensures { λ r. ⌜ r ≡ isInt number ⌝ }
+{
+    match number {
+        1..=8 => true,
+        _ => false,
+    }
+}
+
+// An integer's own bytes. It is taken here, as `leaf::take` does it: that has several callers and so stays a call, which
+// costs more than most integers.
+fn int_bytes(number: u8, part: &[u8]) -> Item
+    requires { ⌜ IsInt number ⌝ }
+    ensures { λ r. ⌜ r ≡ headOf (kindOf number) 0 0 (now (part .entry)) ⌝ }
 {
     match number {
         1 => fixint::take8(part, true),
@@ -84,39 +129,28 @@ fn leaf_bytes(number: u8, part: &[u8], place: usize) -> Item
         5 => fixint::take8(part, false),
         6 => varint::take_u16(part),
         7 => varint::take_u32(part),
-        8 => varint::take(part, varint::U64::MOST, varint::U64::LAST),
-        _ => by_call(number, part, place),
+        _ => varint::take(part, varint::U64::MOST, varint::U64::LAST),
     }
 }
 
-// ---- an item
-
-// A leaf: its entry, or why it is refused.
-pub fn read_leaf(
-    number: u8,
-    part: &[u8],
-    place: usize,
-    store: &mut [u64],
-    made: usize,
-) -> ReadAnswer
+// An integer, read plainly: its entry, or why it is refused. It is apart from other leaves and from strict readings, whose
+// items come by a call, since it is what most messages hold most of.
+pub fn read_int(number: u8, part: &[u8], place: usize, store: &mut [u64], made: usize) -> ReadAnswer
+    requires { ⌜ IsInt number ⌝ }
     requires { ⌜ place + length (now part) < 2 ^ 64 ⌝ }
     requires { ⌜ made + 1 < 2 ^ 64 ⌝ }
     ensures { λ r. ⌜ Puts place made (now (store .entry)) (takeAt number place (now (part .entry))) r (now (store .exit)) ⌝ }
 {
-    let own = leaf_bytes(number, part, place);
-    match own {
+    let got = int_bytes(number, part);
+    match got {
         Item::Refused { why } => ReadAnswer::Refused {
             why,
             place,
             count: made,
         },
-        Item::Took {
-            first,
-            second,
-            used,
-        } => {
-            entry::put(store, made, first, second, place);
-            let behind = place + used;
+        Item::Took { own } => {
+            entry::put(store, made, own.first, own.second, place);
+            let behind = place + own.used;
             let count = made + 1;
             ReadAnswer::Done {
                 place: behind,
@@ -126,8 +160,43 @@ pub fn read_leaf(
     }
 }
 
+// Any leaf: its entry, or why it is refused.
+pub fn read_leaf(
+    strict: bool,
+    number: u8,
+    part: &[u8],
+    place: usize,
+    store: &mut [u64],
+    made: usize,
+) -> ReadAnswer
+    requires { ⌜ place + length (now part) < 2 ^ 64 ⌝ }
+    requires { ⌜ made + 1 < 2 ^ 64 ⌝ }
+    ensures { λ r. ⌜ Puts place made (now (store .entry)) (judged strict (takeAt number place (now (part .entry)))) r (now (store .exit)) ⌝ }
+{
+    let got = judge(strict, leaf::take(number, part, place));
+    match got {
+        Item::Refused { why } => ReadAnswer::Refused {
+            why,
+            place,
+            count: made,
+        },
+        Item::Took { own } => {
+            entry::put(store, made, own.first, own.second, place);
+            let behind = place + own.used;
+            let count = made + 1;
+            ReadAnswer::Done {
+                place: behind,
+                count,
+            }
+        }
+    }
+}
+
+// ---- an item that has children
+
 // The entry of an item that has children, and what follows.
 pub fn enter(
+    strict: bool,
     table: &[u8],
     l: Layout,
     node: usize,
@@ -140,21 +209,22 @@ pub fn enter(
     requires { ⌜ GoodTable (now table) l ⌝ }
     requires { ⌜ node < l .nodes ⌝ }
     requires { ⌜ Inner (now table) l node number ⌝ }
-    ensures { λ r. ⌜ Enters l node (nodeAt (now (table .entry)) (recordOf l node)) place made (now (store .entry)) (ownOf headOf (nodeAt (now (table .entry)) (recordOf l node)) (spot (now (part .entry)) place)) r (now (store .exit)) ⌝ }
+    ensures { λ r. ⌜ Enters l node (nodeAt (now (table .entry)) (recordOf l node)) place made (now (store .entry)) (ownOf (headBy strict) (nodeAt (now (table .entry)) (recordOf l node)) (spot (now (part .entry)) place)) r (now (store .exit)) ⌝ }
 {
     let width = table::child_count(table, l, node);
-    let own = head_bytes(number, width, part, place);
-    match own {
+    let got = head_bytes(number, width, part, place);
+    match got {
         Item::Refused { why } => Entered::Refused { why },
-        Item::Took {
-            first,
-            second,
-            used,
-        } => {
-            entry::put(store, made, first, second, place);
+        Item::Took { own } => {
+            if is_longer(strict, own.shortest) {
+                return Entered::Refused {
+                    why: Refusal::NotShortest,
+                };
+            }
+            entry::put(store, made, own.first, own.second, place);
             let from = table::first_child(table, l, node);
-            let to = table::follow(number, first, from, width);
-            Entered::On { to, used }
+            let to = table::follow(number, own.first, from, width);
+            Entered::On { to, used: own.used }
         }
     }
 }

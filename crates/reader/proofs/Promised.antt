@@ -1,7 +1,7 @@
 -- The contracts of the public calls, from what the cycle gives for the root, whose number stands in the trailer: with a store's own room, and with none.
 -- Assumes nothing.
 use mathlib.Core.Path.{_≡_, sym, ap, ap₂, _∙_}
-use mathlib.Core.Bool.{false}
+use mathlib.Core.Bool.{Bool, false}
 use mathlib.Core.List.{List, [], _∷_}
 use Prim.Native.Nat.{ℕ, zero, suc, _+_, _-_, _≤_}
 use native.Mathlib.Nat.{sub-zero, zero-add}
@@ -17,8 +17,8 @@ use Rattle.wire.specs.declared.ReadAnswer.the-variants.{Done, Refused}
 use Rattle.wire.specs.Walk.{walk}
 use Rattle.wire.specs.Table.{check, shapeOf}
 use Rattle.wire.specs.Values.{Entry}
-use Rattle.wire.specs.Reading.{Outcome, reached, refused, front, Head, head, runAfter, reading, read, within, fit}
-use Rattle.wire.specs.Answers.{words, roomOf, storeWith, readBy, reads, skims, restOf}
+use Rattle.wire.specs.Reading.{Outcome, reached, refused, front, Head, headBy, runAfter, reading, within, fit}
+use Rattle.wire.specs.Answers.{words, roomOf, storeWith, readBy, skims, restOf}
 use Rattle.laws.specs.Answered.{Reads}
 use Rattle.laws.specs.Tables.{nodeShape}
 use Rattle.laws.proofs.Places.{length-words}
@@ -48,16 +48,16 @@ module _ (h : Head) (room : ℕ) (table message store : List ℕ) {l : Layout} {
       = rounds-once (reading h) table l then-nothing at (front message) ∙ (unfold nodeStep in ap (λ i. walk (reading h) (nodeShape table l i) (front message)) (root-number table good at e)) in
       rw (goods .its-shape) (rw (← flat-rounds goods (omega arith) (reading h) then-nothing flat 1, root, sub-zero room) at g)
 
-module _ (table message : List ℕ) (room : ℕ) (store : List ℕ) where
-  pub with-bad : {e : Refusal} {p : ℕ} → check table ≡ Bad e p → Gives (laid (readBy (check table) table room message) 0 store) (Refused e p 0) store
+module _ (strict : Bool) (table message : List ℕ) (room : ℕ) (store : List ℕ) where
+  pub with-bad : {e : Refusal} {p : ℕ} → check table ≡ Bad e p → Gives (laid (readBy strict (check table) table room message) 0 store) (Refused e p 0) store
   unfolding readBy
   with-bad {e} {p} bad = gives-refused (rw bad (laid-none (refused e p) 0 store))
 
   pub with-good : {l : Layout} {way : Way} {a : ReadAnswer} {st : List ℕ} (at : ℕ) → check table ≡ Good l → at + 4 ≡ length table → Flat table l (l .nodes) at 1 way
-      → Gives (lay room (roundsStep (reading head) table l 1 (way .headed) (way .from) (way .width) (front message)) 0 store) a st
-      → Gives (laid (readBy (check table) table room message) 0 store) a st
-  unfolding readBy read
-  with-good at good e flat g = rw good (root-gives head room table message store at good e flat g)
+      → Gives (lay room (roundsStep (reading (headBy strict)) table l 1 (way .headed) (way .from) (way .width) (front message)) 0 store) a st
+      → Gives (laid (readBy strict (check table) table room message) 0 store) a st
+  unfolding readBy
+  with-good at good e flat g = rw good (root-gives (headBy strict) room table message store at good e flat g)
 
 -- ---- the room of a store, and no store
 
@@ -69,10 +69,10 @@ few (suc room) [] (refused e p) = omega arith
 few zero (e ∷ es) o = omega arith
 few (suc room) (e ∷ es) o = let h = few room es o in omega arith
 
-by-few : (c : Checked) (table : List ℕ) (room : ℕ) (message : List ℕ) → length (readBy c table room message .made) ≤ room
+by-few : (strict : Bool) (c : Checked) (table : List ℕ) (room : ℕ) (message : List ℕ) → length (readBy strict c table room message .made) ≤ room
 unfolding readBy fit
-by-few (Good l) table room message = few room _ _
-by-few (Bad e i) table room message = omega arith
+by-few strict (Good l) table room message = few room _ _
+by-few strict (Bad e i) table room message = omega arith
 
 -- so many entries have their words
 in-front : (es : List Entry) (s : List ℕ) → length es ≤ roomOf s → storeFrom es 0 s ≡ storeWith es s
@@ -82,16 +82,17 @@ in-front es s h =
     (sets-eq (words es) s 0 (unfold roomOf in omega (arith, length-words es)) ∙ rw (zero-add (length (words es))))
 
 module _ (table message : List ℕ) {a : ReadAnswer} where
-  pub reads-whole : (store : List ℕ) {st : List ℕ} → Gives (laid (readBy (check table) table (roomOf store) message) 0 store) a st → Reads (reads table message store) store a st
-  unfolding reads laid
-  reads-whole store g = record {
-    answered = g .answered ∙ rw (zero-add (length (readBy (check table) table (roomOf store) message .made)));
-    stored = g .stored ∙ in-front (readBy (check table) table (roomOf store) message .made) store (by-few (check table) table (roomOf store) message);
+  pub reads-whole : (strict : Bool) (store : List ℕ) {st : List ℕ} → Gives (laid (readBy strict (check table) table (roomOf store) message) 0 store) a st
+      → Reads (readBy strict (check table) table (roomOf store) message) store a st
+  unfolding laid
+  reads-whole strict store g = record {
+    answered = g .answered ∙ rw (zero-add (length (readBy strict (check table) table (roomOf store) message .made)));
+    stored = g .stored ∙ in-front (readBy strict (check table) table (roomOf store) message .made) store (by-few strict (check table) table (roomOf store) message);
   }
 
-  pub skims-whole : (room : ℕ) (store : List ℕ) {st : List ℕ} → Gives (laid (readBy (check table) table room message) 0 store) a st → a ≡ skims table message room
+  pub skims-whole : (room : ℕ) (store : List ℕ) {st : List ℕ} → Gives (laid (readBy false (check table) table room message) 0 store) a st → a ≡ skims table message room
   unfolding skims laid
-  skims-whole room store g = g .answered ∙ rw (zero-add (length (readBy (check table) table room message .made)))
+  skims-whole room store g = g .answered ∙ rw (zero-add (length (readBy false (check table) table room message .made)))
 
 -- ---- the rest
 
@@ -107,7 +108,7 @@ module _ (message : List ℕ) (a : ReadAnswer) where
 -- ---- no choice
 
 pub one-reading : OneReading
-one-reading table message store x y f g = ap₂ (λ a s. (a, s)) (f .answered ∙ sym (g .answered)) (f .stored ∙ sym (g .stored))
+one-reading run store x y f g = ap₂ (λ a s. (a, s)) (f .answered ∙ sym (g .answered)) (f .stored ∙ sym (g .stored))
 
 pub one-rest : OneRest
 one-rest message a = by-equation (restOf message a)

@@ -12,11 +12,11 @@ use Rattle.wire.specs.declared.Layout.{Layout}
 use Rattle.wire.specs.declared.ReadAnswer.{ReadAnswer}
 use Rattle.wire.specs.declared.ReadAnswer.the-variants.{Done, Refused}
 use Rattle.wire.specs.Table.{u16At, kindOf, nodeAt, recordOf, shapesAt}
-use Rattle.wire.specs.Reading.{Head, Spot, Outcome, reached, refused, Run, head, past, readThen, reading, fit}
+use Rattle.wire.specs.Reading.{Head, Spot, Outcome, reached, refused, Run, head, judged, headBy, past, readThen, reading, fit}
 use Rattle.wire.specs.Answers.{readAnswer}
 use Rattle.laws.specs.Bounds.{Stays, reaches}
 use Rattle.laws.specs.Heads.{Sound}
-use Rattle.laws.specs.KindRanges.{IsInner}
+use Rattle.laws.specs.KindRanges.{IsInt, IsInner}
 use Rattle.laws.specs.Tables.{nodeCount, nodeShape, GoodTable}
 use Rattle.laws.proofs.Bounds.{read-stays, row-stays}
 use Rattle.laws.proofs.Parts.{tail, length-tail}
@@ -122,7 +122,7 @@ module _ (h : Head) (room : ℕ) {s : List ℕ} {l : Layout} {i : ℕ} (g : Good
     pub entered-refused : {y : Refusal} → r ≡ entered.Refused y → Gives (lay room (nodeStep (reading h) s l i (spot bs p)) m store) (Refused y p m) st
     entered-refused {y} = go refl e
       where
-        go : {own : Item} {q : Entered} {t : List ℕ} → ownOf h (nodeAt s (recordOf l i)) (spot bs p) ≡ own → Enters l i (nodeAt s (recordOf l i)) p m store own q t
+        go : {got : Item} {q : Entered} {t : List ℕ} → ownOf h (nodeAt s (recordOf l i)) (spot bs p) ≡ got → Enters l i (nodeAt s (recordOf l i)) p m store got q t
             → q ≡ entered.Refused y → Gives (lay room (nodeStep (reading h) s l i (spot bs p)) m store) (Refused y p m) t
         go o (stops {e = x}) k = let same : x ≡ y = cc in rw (← same) (gives-refused (item-refused h room g below (spot bs p) m store some o))
         go o goes k = let z : _≡_ {A = ℕ} 0 1 = cc in absurd (omega arith)
@@ -130,19 +130,19 @@ module _ (h : Head) (room : ℕ) {s : List ℕ} {l : Layout} {i : ℕ} (g : Good
     pub entered-on : Sound h → {to : Stretch} {u : ℕ} → r ≡ On to u → Goes h room (lay room (nodeStep (reading h) s l i (spot bs p)) m store) s l i (spot bs p) m to u st
     entered-on sound {to} {u} = go refl e
       where
-        go : {own : Item} {q : Entered} {t : List ℕ} → ownOf h (nodeAt s (recordOf l i)) (spot bs p) ≡ own → Enters l i (nodeAt s (recordOf l i)) p m store own q t
+        go : {got : Item} {q : Entered} {t : List ℕ} → ownOf h (nodeAt s (recordOf l i)) (spot bs p) ≡ got → Enters l i (nodeAt s (recordOf l i)) p m store got q t
             → q ≡ On to u → Goes h room (lay room (nodeStep (reading h) s l i (spot bs p)) m store) s l i (spot bs p) m to u t
         go o stops k = let z : _≡_ {A = ℕ} 0 1 = cc in absurd (omega arith)
-        go o (goes {a} {n = v}) k =
-            let way : afterOf l i (nodeAt s (recordOf l i)) a ≡ to = cc in
-            let used : v ≡ u = cc in
+        go o (goes {own}) k =
+            let way : afterOf l i (nodeAt s (recordOf l i)) (own .first) ≡ to = cc in
+            let used : own .used ≡ u = cc in
             rw (← way, ← used) (item-goes h room g below (spot bs p) m store some sound o)
 
   -- a leaf that was read
-  pub leaf-gives : (k : ℕ) → k ≡ nodeAt s (recordOf l i) .number → (IsInner k → ⊥) → {own : Item} → ownOf h (nodeAt s (recordOf l i)) (spot bs p) ≡ own → {a : ReadAnswer} {st : List ℕ} → Puts p m store own a st
+  pub leaf-gives : (k : ℕ) → k ≡ nodeAt s (recordOf l i) .number → (IsInner k → ⊥) → {got : Item} → ownOf h (nodeAt s (recordOf l i)) (spot bs p) ≡ got → {a : ReadAnswer} {st : List ℕ} → Puts p m store got a st
       → Gives (lay room (nodeStep (reading h) s l i (spot bs p)) m store) a st
   unfolding past
-  leaf-gives k e outer o (entry {n = n}) = gives-done (past n (spot bs p)) (item-alone h room g below (spot bs p) m store some (rw e at outer) o)
+  leaf-gives k e outer o (entry {own}) = gives-done (past (own .used) (spot bs p)) (item-alone h room g below (spot bs p) m store some (rw e at outer) o)
   leaf-gives k e outer o same = gives-refused (item-refused h room g below (spot bs p) m store some o)
 
 module _ {h : Head} {room : ℕ} {w : Left} {s : List ℕ} {l : Layout} {i : ℕ} {bs : List ℕ} {p m : ℕ} {to : Stretch} {u : ℕ} {st : List ℕ}
@@ -159,10 +159,19 @@ module _ {h : Head} {room : ℕ} {w : Left} {s : List ℕ} {l : Layout} {i : ℕ
 
 -- ---- with wire's own head
 
--- a leaf's item is the node's
-pub leaf-own : {s : List ℕ} {l : Layout} {i : ℕ} → GoodTable s l → i < l .nodes → (bs : List ℕ) (p k : ℕ) → k ≡ nodeAt s (recordOf l i) .number → (IsInner k → ⊥) → p + length bs < 2 ^ 64
-    → ownOf head (nodeAt s (recordOf l i)) (spot bs p) ≡ takeAt k p bs
-unfolding ownOf
-leaf-own {s} {l} {i} g below bs p k e outer fits =
+-- a leaf's item is the node's, strictly or not
+pub leaf-own : (strict : Bool) {s : List ℕ} {l : Layout} {i : ℕ} → GoodTable s l → i < l .nodes → (bs : List ℕ) (p k : ℕ) → k ≡ nodeAt s (recordOf l i) .number → (IsInner k → ⊥) → p + length bs < 2 ^ 64
+    → ownOf (headBy strict) (nodeAt s (recordOf l i)) (spot bs p) ≡ judged strict (takeAt k p bs)
+unfolding ownOf headBy
+leaf-own strict {s} {l} {i} g below bs p k e outer fits =
     let r = nodeAt s (recordOf l i) in
-    sym (head-leaf (nodeCount r) p bs k outer (number-small g below k e) fits ∙ ap (λ q. head (kindOf q) (nodeCount r) p bs) e)
+    ap (judged strict) (sym (head-leaf (nodeCount r) p bs k outer (number-small g below k e) fits ∙ ap (λ q. head (kindOf q) (nodeCount r) p bs) e))
+
+-- an integer that was read plainly
+pub int-gives : (strict : Bool) (room : ℕ) {s : List ℕ} {l : Layout} {i : ℕ} (g : GoodTable s l) (below : i < l .nodes) (bs : List ℕ) (p m : ℕ) (store : List ℕ) → m < room
+    → (k : ℕ) → k ≡ nodeAt s (recordOf l i) .number → IsInt k → strict ≡ false → p + length bs < 2 ^ 64 → {a : ReadAnswer} {st : List ℕ} → Puts p m store (takeAt k p bs) a st
+    → Gives (lay room (nodeStep (reading (headBy strict)) s l i (spot bs p)) m store) a st
+int-gives strict room g below bs p m store some k e int plain fits =
+    let outer : IsInner k → ⊥ = λ h. omega (arith, h .0, int .1) in
+    let own = leaf-own strict g below bs p k e outer fits in
+    leaf-gives (headBy strict) room g below bs p m store some k e outer (own ∙ rw plain (unfold judged in refl))

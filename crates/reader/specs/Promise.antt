@@ -4,13 +4,14 @@ use mathlib.Core.Path.{_≡_}
 use mathlib.Core.List.{List}
 use Prim.Native.Nat.{ℕ}
 use Rattle.wire.specs.declared.ReadAnswer.{ReadAnswer}
-use Rattle.wire.specs.Answers.{reads, skims, restOf}
+use Rattle.wire.specs.Reading.{Run}
+use Rattle.wire.specs.Answers.{skims, restOf}
 use Rattle.laws.specs.Answered.{Reads}
 use Rattle.laws.specs.Unique.{Unique}
 
--- One answer, and one store, meet the contract of `read`.
+-- One answer, and one store, meet the contract of `read`, and that of `read_strict`: each names one run.
 abbrev pub OneReading : Type 0
-OneReading = (table message store : List ℕ) → Unique (λ (r : ReadAnswer × List ℕ). Reads (reads table message store) store (r .0) (r .1))
+OneReading = (run : Run) (store : List ℕ) → Unique (λ (r : ReadAnswer × List ℕ). Reads run store (r .0) (r .1))
 
 -- One part meets the contract of `rest`.
 abbrev pub OneRest : Type 0

@@ -8,8 +8,8 @@ ghost use mathlib.Core.Path.{_≡_};
 ghost use Prim.Native.Nat.{_+_, _^_, _<_, _≤_};
 ghost use lib.ListN.{length};
 ghost use Rattle.wire.specs.Table.{check as checkOf};
-ghost use Rattle.wire.specs.Reading.{head, reading};
-ghost use Rattle.wire.specs.Answers.{readBy, reads, skims, restOf};
+ghost use Rattle.wire.specs.Reading.{headBy, reading};
+ghost use Rattle.wire.specs.Answers.{readBy, reads, readsStrict, skims, restOf};
 ghost use Rattle.laws.specs.Answered.{Reads};
 ghost use Rattle.laws.specs.Tables.{GoodTable};
 ghost use Rattle.table.specs.Parts.{Falls, nodeStep, rowStep, roundsStep};
@@ -43,6 +43,7 @@ fn begin(headed: bool, place: usize, room: usize, store: &mut [u64], made: usize
 
 // An item. It wants room before its bytes are looked at.
 fn read_item(
+    strict: bool,
     table: &[u8],
     l: Layout,
     node: usize,
@@ -55,7 +56,7 @@ fn read_item(
     requires { ⌜ GoodTable (now table) l ⌝ }
     requires { ⌜ node < l .nodes ⌝ }
     requires { ⌜ place + length (now part) < 2 ^ 64 ⌝ }
-    ensures { λ r. ⌜ Gives (lay room (nodeStep (reading head) (now (table .entry)) l node (spot (now (part .entry)) place)) made (now (store .entry))) r (now (store .exit)) ⌝ }
+    ensures { λ r. ⌜ Gives (lay room (nodeStep (reading (headBy strict)) (now (table .entry)) l node (spot (now (part .entry)) place)) made (now (store .entry))) r (now (store .exit)) ⌝ }
 {
     if room <= made {
         return ReadAnswer::Refused {
@@ -65,9 +66,36 @@ fn read_item(
         };
     }
     let number = table::kind_at(table, l, node);
+    if read_item::is_int(number) {
+        if !strict {
+            let got = read_item::read_int(number, part, place, store, made);
+            // Made anew, so that it does not go through memory with other answers; so is the next one.
+            let ReadAnswer::Done {
+                place: behind,
+                count,
+            } = got
+            else {
+                return got;
+            };
+            return ReadAnswer::Done {
+                place: behind,
+                count,
+            };
+        }
+    }
     if table::is_inner(number) {
-        let got = read_inner(table, l, node, number, part, place, room, store, made);
-        // Made anew, so that a leaf's answer does not go through memory with this one.
+        let got = read_inner(
+            strict,
+            table,
+            l,
+            node,
+            number,
+            part,
+            place,
+            room,
+            store,
+            made,
+        );
         let ReadAnswer::Done {
             place: behind,
             count,
@@ -80,11 +108,12 @@ fn read_item(
             count,
         };
     }
-    read_item::read_leaf(number, part, place, store, made)
+    read_item::read_leaf(strict, number, part, place, store, made)
 }
 
 // An item that has children. It is apart from `read_item`, so that only here everything is laid out for the call in a cycle.
 fn read_inner(
+    strict: bool,
     table: &[u8],
     l: Layout,
     node: usize,
@@ -100,9 +129,9 @@ fn read_inner(
     requires { ⌜ Inner (now table) l node number ⌝ }
     requires { ⌜ made < room ⌝ }
     requires { ⌜ place + length (now part) < 2 ^ 64 ⌝ }
-    ensures { λ r. ⌜ Gives (lay room (nodeStep (reading head) (now (table .entry)) l node (spot (now (part .entry)) place)) made (now (store .entry))) r (now (store .exit)) ⌝ }
+    ensures { λ r. ⌜ Gives (lay room (nodeStep (reading (headBy strict)) (now (table .entry)) l node (spot (now (part .entry)) place)) made (now (store .entry))) r (now (store .exit)) ⌝ }
 {
-    let entered = read_item::enter(table, l, node, number, part, place, store, made);
+    let entered = read_item::enter(strict, table, l, node, number, part, place, store, made);
     match entered {
         Entered::Refused { why } => ReadAnswer::Refused {
             why,
@@ -120,6 +149,7 @@ fn read_inner(
             }
             let way = table::flat(table, l, node, to.from, to.width);
             read_rounds(
+                strict,
                 table,
                 l,
                 node,
@@ -138,6 +168,7 @@ fn read_inner(
 }
 
 fn read_rounds(
+    strict: bool,
     table: &[u8],
     l: Layout,
     node: usize,
@@ -155,7 +186,7 @@ fn read_rounds(
     requires { ⌜ node ≤ l .nodes ⌝ }
     requires { ⌜ Falls (now table) from width node ⌝ }
     requires { ⌜ place + length (now part) < 2 ^ 64 ⌝ }
-    ensures { λ r. ⌜ Gives (lay room (roundsStep (reading head) (now (table .entry)) l rounds headed from width (spot (now (part .entry)) place)) made (now (store .entry))) r (now (store .exit)) ⌝ }
+    ensures { λ r. ⌜ Gives (lay room (roundsStep (reading (headBy strict)) (now (table .entry)) l rounds headed from width (spot (now (part .entry)) place)) made (now (store .entry))) r (now (store .exit)) ⌝ }
 {
     let mut rest = part;
     let mut at = place;
@@ -170,7 +201,19 @@ fn read_rounds(
                 count: sofar,
             };
         };
-        let got = read_stretch(table, l, node, from, width, rest, at, room, store, ready);
+        let got = read_stretch(
+            strict,
+            table,
+            l,
+            node,
+            from,
+            width,
+            rest,
+            at,
+            room,
+            store,
+            ready,
+        );
         let ReadAnswer::Done {
             place: next,
             count: more,
@@ -191,6 +234,7 @@ fn read_rounds(
 }
 
 fn read_stretch(
+    strict: bool,
     table: &[u8],
     l: Layout,
     node: usize,
@@ -206,7 +250,7 @@ fn read_stretch(
     requires { ⌜ node ≤ l .nodes ⌝ }
     requires { ⌜ Falls (now table) from width node ⌝ }
     requires { ⌜ place + length (now part) < 2 ^ 64 ⌝ }
-    ensures { λ r. ⌜ Gives (lay room (rowStep (reading head) (now (table .entry)) l from width (spot (now (part .entry)) place)) made (now (store .entry))) r (now (store .exit)) ⌝ }
+    ensures { λ r. ⌜ Gives (lay room (rowStep (reading (headBy strict)) (now (table .entry)) l from width (spot (now (part .entry)) place)) made (now (store .entry))) r (now (store .exit)) ⌝ }
 {
     let mut rest = part;
     let mut at = place;
@@ -215,7 +259,7 @@ fn read_stretch(
     let mut left = width;
     while 0 < left {
         let c = table::u16_at(table, child);
-        let got = read_item(table, l, c, rest, at, room, store, sofar);
+        let got = read_item(strict, table, l, c, rest, at, room, store, sofar);
         let ReadAnswer::Done {
             place: next,
             count: more,
@@ -238,9 +282,15 @@ fn read_stretch(
 
 // ---- the public calls
 
-// A reading with room for so many entries, which are stored where the store has words for them.
-fn read_with(table: &[u8], message: &[u8], room: usize, store: &mut [u64]) -> ReadAnswer
-    ensures { λ r. ⌜ Gives (laid (readBy (checkOf (now (table .entry))) (now (table .entry)) room (now (message .entry))) 0 (now (store .entry))) r (now (store .exit)) ⌝ }
+// A reading with room for so many entries, strict or not. They are stored where the store has words for them.
+fn read_with(
+    strict: bool,
+    table: &[u8],
+    message: &[u8],
+    room: usize,
+    store: &mut [u64],
+) -> ReadAnswer
+    ensures { λ r. ⌜ Gives (laid (readBy strict (checkOf (now (table .entry))) (now (table .entry)) room (now (message .entry))) 0 (now (store .entry))) r (now (store .exit)) ⌝ }
 {
     let checked = table::check(table);
     match checked {
@@ -253,6 +303,7 @@ fn read_with(table: &[u8], message: &[u8], room: usize, store: &mut [u64]) -> Re
             let root = table::root_at(table);
             let way = table::flat(table, layout, layout.nodes, root, 1);
             read_rounds(
+                strict,
                 table,
                 layout,
                 layout.nodes,
@@ -275,7 +326,16 @@ pub fn read(table: &[u8], message: &[u8], store: &mut [u64]) -> ReadAnswer
     ensures { λ r. ⌜ Reads (reads (now (table .entry)) (now (message .entry)) (now (store .entry))) (now (store .entry)) r (now (store .exit)) ⌝ }
 {
     let room = entry::room(store.len());
-    read_with(table, message, room, store)
+    read_with(false, table, message, room, store)
+}
+
+// The same, for a message whose items are all in their shortest forms: the first that isn't is refused, after every other
+// refusal of that item.
+pub fn read_strict(table: &[u8], message: &[u8], store: &mut [u64]) -> ReadAnswer
+    ensures { λ r. ⌜ Reads (readsStrict (now (table .entry)) (now (message .entry)) (now (store .entry))) (now (store .entry)) r (now (store .exit)) ⌝ }
+{
+    let room = entry::room(store.len());
+    read_with(true, table, message, room, store)
 }
 
 // What a read answers with a store that has room for so many entries, where none is at hand.
@@ -283,7 +343,7 @@ pub fn skim(table: &[u8], message: &[u8], room: usize) -> ReadAnswer
     ensures { λ r. ⌜ r ≡ skims (now (table .entry)) (now (message .entry)) room ⌝ }
 {
     let mut words: [u64; 1] = [0; 1];
-    read_with(table, message, room, &mut words[0..0])
+    read_with(false, table, message, room, &mut words[0..0])
 }
 
 // The unread bytes, from the same message and its answer.

@@ -23,6 +23,7 @@ const BEFORE_BYTE: u8 = 165;
 
 pub enum Kind {
     Read,
+    ReadStrict,
     Write,
     Append,
     Feed,
@@ -40,6 +41,7 @@ struct Told {
 pub fn fields(kind: Kind) -> usize {
     match kind {
         Kind::Read => 8,
+        Kind::ReadStrict => 8,
         Kind::Write => 8,
         Kind::Append => 5,
         Kind::Feed => 10,
@@ -77,14 +79,21 @@ fn read_told(answer: ReadAnswer) -> Told
     }
 }
 
-// Whether reading into a store gives what the record has; `then` is another store like it.
-fn read_over(record: &[u8], store: &mut [u64], then: &mut [u64]) -> bool {
+fn read_by(strict: bool, table: &[u8], message: &[u8], store: &mut [u64]) -> ReadAnswer {
+    if strict {
+        return reader::read_strict(table, message, store);
+    }
+    reader::read(table, message, store)
+}
+
+// Whether reading into a store, strictly or not, gives what the record has; `then` is another store like it.
+fn read_over(strict: bool, record: &[u8], store: &mut [u64], then: &mut [u64]) -> bool {
     let size = field::number_at(record, 5) as usize;
     if store.len() < size {
         return false;
     }
     let message = field::part(record, 4);
-    let answer = reader::read(field::part(record, 3), message, &mut store[..size]);
+    let answer = read_by(strict, field::part(record, 3), message, &mut store[..size]);
     if !tells(record, read_told(answer)) {
         return false;
     }
@@ -95,10 +104,10 @@ fn read_over(record: &[u8], store: &mut [u64], then: &mut [u64]) -> bool {
     check::same(reader::rest(message, answer), field::part(record, 7))
 }
 
-fn read_agrees(record: &[u8]) -> bool {
+fn read_agrees(strict: bool, record: &[u8]) -> bool {
     let mut store = [BEFORE; WORDS];
     let mut then = [BEFORE; WORDS];
-    read_over(record, &mut store, &mut then)
+    read_over(strict, record, &mut store, &mut then)
 }
 
 // ---- writing
@@ -283,7 +292,8 @@ fn take_agrees(record: &[u8]) -> bool {
 // Whether the answer to what a record asks is the record's.
 pub fn agrees(kind: Kind, record: &[u8]) -> bool {
     match kind {
-        Kind::Read => read_agrees(record),
+        Kind::Read => read_agrees(false, record),
+        Kind::ReadStrict => read_agrees(true, record),
         Kind::Write => write_agrees(record),
         Kind::Append => ask_agrees(record),
         Kind::Feed => feed_agrees(record),

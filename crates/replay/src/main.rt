@@ -86,6 +86,7 @@ fn replay(kind: Kind, path: &[u8]) {
 
 fn main() {
     replay(Kind::Read, b"reading");
+    replay(Kind::ReadStrict, b"strict");
     replay(Kind::Write, b"writing");
     replay(Kind::Append, b"appending");
     replay(Kind::Feed, b"feeding");

@@ -138,7 +138,7 @@ pub fn say_why(why: Refusal, text: &[u8], place: usize) {
     let names =
         b";the trailer is not good;a record is not good;the message ends inside an item;bad varint;bad bool;bad char;\
         bad UTF-8;bad option;the table has no such variant;no room for this item's entry;the value list does not fit;\
-        the output is full";
+        the output is full;;;;not in its shortest form";
     say_part(names, n as usize);
     say_with(text, place as u64);
 }

@@ -1,4 +1,4 @@
-// What a planner runs: shelf table, read, bytes, append, frames and write, each over files. Without such words it says how to use it.
+// What a planner runs: shelf table, read, bytes, read-strict, append, frames and write, each over files. Without such words it says how to use it.
 mod files;
 mod frames;
 mod shown;
@@ -9,6 +9,7 @@ enum Verb {
     Table,
     Read,
     Bytes,
+    ReadStrict,
     Append,
     Frames,
     Write,
@@ -20,6 +21,7 @@ fn say_usage() {
         b"shelf table FILE                    is the table good? its shape as a tree\n\
         shelf read TABLE MESSAGE            each entry of the message on a line, and the rest\n\
         shelf bytes TABLE MESSAGE           the same, each entry with its place and its bytes\n\
+        shelf read-strict TABLE MESSAGE     the same, up to the first item that isn't in its shortest form\n\
         shelf append OLD NEW                does the new table only append to the old one?\n\
         shelf frames FILE                   the messages in a recorded stream of frames\n\
         shelf write TABLE VALUES POOL OUT   writes the message of a value list\n",
@@ -35,6 +37,9 @@ fn verb_of(word: &[u8]) -> Verb {
     }
     if check::same(word, b"bytes") {
         return Verb::Bytes;
+    }
+    if check::same(word, b"read-strict") {
+        return Verb::ReadStrict;
     }
     if check::same(word, b"append") {
         return Verb::Append;
@@ -54,6 +59,7 @@ fn words_of(verb: Verb) -> usize {
         Verb::Table => 3,
         Verb::Read => 4,
         Verb::Bytes => 4,
+        Verb::ReadStrict => 4,
         Verb::Append => 4,
         Verb::Frames => 3,
         Verb::Write => 6,
@@ -72,7 +78,7 @@ fn run_on_new(old: &[u8]) {
     }
 }
 
-// shelf read TABLE MESSAGE, shelf bytes TABLE MESSAGE or shelf write TABLE VALUES POOL OUT, with the table.
+// shelf read, bytes or read-strict TABLE MESSAGE, or shelf write TABLE VALUES POOL OUT, with the table.
 fn run_on_file(verb: Verb, table: &[u8]) {
     let mut room = files::large_room();
     let loaded = files::load(3, &mut room);
@@ -82,6 +88,7 @@ fn run_on_file(verb: Verb, table: &[u8]) {
         match verb {
             Verb::Read => shown::read(table, &room[..len], false),
             Verb::Bytes => shown::read(table, &room[..len], true),
+            Verb::ReadStrict => shown::read_strictly(table, &room[..len]),
             _ => writing::write_values(table, &room[..len]),
         }
     }

@@ -11,6 +11,15 @@ pub fn read(table: &[u8], message: &[u8], bytes: bool) {
     listing::entries::show(table, message, &store, answer, rest, bytes);
 }
 
+// Reads a message strictly. The plain reading behind it has the same entries, and that of the item which isn't in its shortest form.
+pub fn read_strictly(table: &[u8], message: &[u8]) {
+    let mut store = files::words_room();
+    let strict = reader::read_strict(table, message, &mut store);
+    let plain = reader::read(table, message, &mut store);
+    let rest = reader::rest(message, strict);
+    listing::entries::show_strictly(table, message, &store, strict, plain, rest);
+}
+
 // Asks whether a new table only appends to an old one.
 pub fn ask(old: &[u8], new: &[u8]) {
     let mut path = [0u64; 256];

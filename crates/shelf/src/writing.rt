@@ -14,15 +14,10 @@ fn first_word(bytes: &[u8]) -> u64
     requires { ⌜ 8 ≤ length (now bytes) ⌝ }
 {
     let got = fixint::take64(bytes, false, false);
-    let Item::Took {
-        first,
-        second: _,
-        used: _,
-    } = got
-    else {
+    let Item::Took { own } = got else {
         return 0;
     };
-    first
+    own.first
 }
 
 // Puts the whole words of a file in front.

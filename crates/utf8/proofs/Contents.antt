@@ -6,6 +6,7 @@ use mathlib.Core.List.{List}
 use Prim.Native.Nat.{ℕ, _<_, _≤_}
 use native.Mathlib.Omega.{arith}
 use lib.ListN.{length}
+use Rattle.wire.specs.declared.Own.{Own}
 use Rattle.wire.specs.declared.Item.{Item}
 use Rattle.wire.specs.declared.Item.the-variants.{Took}
 use Rattle.wire.specs.Tests.{both}
@@ -20,7 +21,7 @@ pub as-u64 : {r : Item} (s : List ℕ) → r ≡ takes 10 1 s → r ≡ varint w
 unfolding most last
 as-u64 s e = e ∙ at-width w64 s
 
-pub within : {r : Item} (s : List ℕ) → r ≡ takes 10 1 s → {a b n : ℕ} → r ≡ Took a b n → n ≤ length s
+pub within : {r : Item} (s : List ℕ) → r ≡ takes 10 1 s → {own : Own} → r ≡ Took own → own .used ≤ length s
 within s e p = took-in w64 s (sym (as-u64 s e) ∙ p) .within
 
 pub some : {n : ℕ} → (n ≡ 0 → ⊥) → 0 < n

@@ -1,7 +1,7 @@
 -- How code points and texts stand to each other, and document 01's cases of chars.
 -- Assumes nothing.
 use mathlib.Core.Path.{_≡_}
-use mathlib.Core.Bool.{true}
+use mathlib.Core.Bool.{true, false}
 use mathlib.Core.List.{List, [], _∷_}
 use Prim.Native.Nat.{ℕ, _<_}
 use lib.ListN.{length, take}
@@ -23,7 +23,7 @@ FirstIsChar = (s : List ℕ) → 0 < length s → utf8 s ≡ true
 -- document 01's cases 9 to 11, and what it warns of: four is tested before the end, and all the bytes are
 abbrev pub CharCases : Type 0
 CharCases =
-    (readPlain char (0x02 ∷ 0x61 ∷ 0x62 ∷ []) ≡ Took 97 0 3)
+    (readPlain char (0x02 ∷ 0x61 ∷ 0x62 ∷ []) ≡ Took (record { first = 97; second = 0; used = 3; shortest = false }))
     × (readPlain char (0x05 ∷ []) ≡ Refused BadChar)
     × (readPlain char (0x00 ∷ []) ≡ Refused BadChar)
     × (readPlain char (0x04 ∷ []) ≡ Refused End)

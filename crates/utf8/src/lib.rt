@@ -1,13 +1,14 @@
 // UTF-8: whether bytes are a text, a text's first char, a char's bytes, and the items that hold text.
 use wire::Item;
+use wire::Own;
 use wire::Refusal;
 ghost use mathlib.Core.Path.{_≡_};
 ghost use mathlib.Core.Bool.{true};
 ghost use Prim.Native.Nat.{_+_, _<_, _^_};
-ghost use lib.Dec.{leb};
+ghost use lib.Dec.{leb, eqb};
 ghost use lib.ListN.{length, drop};
 ghost use Rattle.wire.specs.Tests.{both};
-ghost use Rattle.wire.specs.Text.{widthOf, utf8, firstChar, isChar};
+ghost use Rattle.wire.specs.Text.{widthOf, utf8, firstChar, isChar, charBytes};
 ghost use Rattle.wire.specs.Shape.{char, pooled};
 ghost use Rattle.wire.specs.Reading.{charOf, isContent, contentOf, readPlain, head};
 ghost use Rattle.utf8.specs.Scan.{AreWidths, isSecond, Lead, Start, Same, After};
@@ -301,17 +302,43 @@ pub fn char_bytes(c: u64) -> CharBytes
     }
 }
 
-// A char of `count` bytes, behind a count that took `used`.
-fn char_of(part: &[u8], count: u64, used: usize) -> Item
-    requires { ⌜ used + length (now part) < 2 ^ 64 ⌝ }
-    ensures { λ r. ⌜ r ≡ charOf count used (now (part .entry)) ⌝ }
+// How many bytes a char has.
+fn char_size(c: u64) -> usize
+    ensures { λ r. ⌜ r ≡ length (charBytes c) ⌝ }
 {
-    if 4 < count {
+    if c < 0x80 {
+        return 1;
+    }
+    if c < 0x800 {
+        return 2;
+    }
+    if c < 0x10000 {
+        return 3;
+    }
+    4
+}
+
+// Whether a char in so many bytes is in its shortest form, if their count is.
+fn is_shortest(counted: bool, n: usize, c: u64) -> bool
+    ensures { λ r. ⌜ r ≡ both counted (eqb n (length (charBytes c))) ⌝ }
+{
+    if counted {
+        return n == char_size(c);
+    }
+    false
+}
+
+// A char behind the count of its bytes.
+fn char_of(part: &[u8], count: Own) -> Item
+    requires { ⌜ count .used + length (now part) < 2 ^ 64 ⌝ }
+    ensures { λ r. ⌜ r ≡ charOf count (now (part .entry)) ⌝ }
+{
+    if 4 < count.first {
         return Item::Refused {
             why: Refusal::BadChar,
         };
     }
-    let n = count as usize;
+    let n = count.first as usize;
     if part.len() < n {
         return Item::Refused { why: Refusal::End };
     }
@@ -328,11 +355,15 @@ fn char_of(part: &[u8], count: u64, used: usize) -> Item
         };
     }
     let first = first_char(bytes);
-    let end = used + n;
+    let shortest = is_shortest(count.shortest, n, first);
+    let used = count.used + n;
     Item::Took {
-        first,
-        second: 0,
-        used: end,
+        own: Own {
+            first,
+            second: 0,
+            used,
+            shortest,
+        },
     }
 }
 
@@ -341,15 +372,11 @@ pub fn take_char(part: &[u8]) -> Item
     ensures { λ r. ⌜ r ≡ readPlain char (now (part .entry)) ⌝ }
 {
     let got = varint::take(part, varint::U64::MOST, varint::U64::LAST);
-    let Item::Took {
-        first,
-        second: _,
-        used,
-    } = got
-    else {
+    let Item::Took { own } = got else {
         return got;
     };
-    char_of(&part[used..], first, used)
+    let used = own.used;
+    char_of(&part[used..], own)
 }
 
 // Whether bytes may be a content: a text must be UTF-8, and anything else may be any bytes.
@@ -362,16 +389,16 @@ pub fn is_content(part: &[u8], text: bool) -> bool
     true
 }
 
-// A text or bytes of `count` bytes, behind a count that took `used`. The offset is counted from the count's first byte.
-fn content_of(part: &[u8], count: u64, used: usize, text: bool) -> Item
-    requires { ⌜ used + length (now part) < 2 ^ 64 ⌝ }
-    ensures { λ r. ⌜ r ≡ contentOf (contentIf text) 0 count used (now (part .entry)) ⌝ }
+// A text or bytes behind their count. The offset is counted from the count's first byte.
+fn content_of(part: &[u8], count: Own, text: bool) -> Item
+    requires { ⌜ count .used + length (now part) < 2 ^ 64 ⌝ }
+    ensures { λ r. ⌜ r ≡ contentOf (contentIf text) 0 count (now (part .entry)) ⌝ }
 {
-    if (part.len() as u64) < count {
+    if (part.len() as u64) < count.first {
         return Item::Refused { why: Refusal::End };
     }
-    let n = count as usize;
-    let end = used + n;
+    let n = count.first as usize;
+    let end = count.used + n;
     let ok = is_content(&part[..n], text);
     if !ok {
         return Item::Refused {
@@ -379,9 +406,12 @@ fn content_of(part: &[u8], count: u64, used: usize, text: bool) -> Item
         };
     }
     Item::Took {
-        first: used as u64,
-        second: count,
-        used: end,
+        own: Own {
+            first: count.used as u64,
+            second: count.first,
+            used: end,
+            shortest: count.shortest,
+        },
     }
 }
 
@@ -390,13 +420,9 @@ pub fn take_content(part: &[u8], text: bool) -> Item
     ensures { λ r. ⌜ r ≡ head (pooled (contentIf text)) 0 0 (now (part .entry)) ⌝ }
 {
     let got = varint::take(part, varint::U64::MOST, varint::U64::LAST);
-    let Item::Took {
-        first,
-        second: _,
-        used,
-    } = got
-    else {
+    let Item::Took { own } = got else {
         return got;
     };
-    content_of(&part[used..], first, used, text)
+    let used = own.used;
+    content_of(&part[used..], own, text)
 }

@@ -9,8 +9,8 @@ use native.Mathlib.Omega.{arith}
 use lib.ListN.{length}
 use borrow.Author.Tests.{le-leb, lt-leb}
 use Rattle.wire.specs.declared.Refusal.{Refusal}
-use Rattle.wire.specs.declared.Item.the-variants.{Took, Refused}
-use Rattle.wire.specs.Numbers.{most, last, low, varintF, varint}
+use Rattle.wire.specs.declared.Item.the-variants.{Refused}
+use Rattle.wire.specs.Numbers.{most, last, low, spelled, varintF, varint, shortest}
 use Rattle.laws.specs.Range.{span}
 use Rattle.laws.proofs.Varints.{varints, varint-small, varint-more, good, span-bits}
 use Rattle.varint.specs.Forms.{form, AnyLength, AreHigh, none, also, LastTooLarge, EndsInside, VarintCases}
@@ -18,7 +18,7 @@ use Rattle.varint.specs.Forms.{form, AnyLength, AreHigh, none, also, Las
 -- ---- read
 
 read : (k m top x : ℕ) (rest : List ℕ) → k ≤ m → top < 128 → x < 128 ^ suc k → x < span (suc m) top
-    → varintF (suc m) top (form (suc k) x ++ rest) ≡ Took x 0 (suc k)
+    → varintF (suc m) top (form (suc k) x ++ rest) ≡ spelled x (suc k)
 unfolding varints form
 read zero zero top x rest l t h f = rw (le-leb x top (omega arith))
 read zero (suc m) top x rest l t h f = varint-small m top x rest h
@@ -54,5 +54,5 @@ ends-inside w s hs l = rw (append-nil s) at (behind hs [] (most w) (most w - len
 -- ---- document 01's
 
 pub varint-cases : VarintCases
-unfolding varints varint most last
+unfolding varints varint most last shortest
 varint-cases = (refl, refl, refl, refl)

@@ -1,18 +1,20 @@
 -- A loop that reads a varint: what is known at its head, over every width, and what one byte more makes of it.
 -- Assumes nothing.
-use mathlib.Core.Path.{_≡_, refl, sym, _∙_}
+use mathlib.Core.Path.{_≡_, refl, sym, ap, _∙_}
 use mathlib.Core.List.{List}
 use Prim.Native.Nat.{ℕ, zero, suc, _+_, _*_, _^_, _%_, _<_, _≤_}
 use native.Mathlib.Nat.{zero-add, one-mul, mul-one, mul-add, mul-assoc, mul-le-mul-left, mod-lt, mod-eq-of-lt}
 use native.Mathlib.Omega.{arith}
+use lib.Dec.{eqb}
 use lib.ListN.{length, getD, drop, drop-of-length-le}
 use borrow.Author.Tests.{lt-ltb, le-ltb, le-leb, lt-leb, ne-eqb}
 use Rattle.wire.specs.declared.Refusal.the-variants.{End, BadVarint}
+use Rattle.wire.specs.declared.Own.{Own}
 use Rattle.wire.specs.declared.Item.{Item}
 use Rattle.wire.specs.declared.Item.the-variants.{Took, Refused}
 use Rattle.wire.specs.Tests.{pick, both}
 use Rattle.wire.specs.Shape.{w16, w32, w64}
-use Rattle.wire.specs.Numbers.{most, last, low, varintF, varint}
+use Rattle.wire.specs.Numbers.{most, last, shortest, spelled, low, varintF, varint}
 use Rattle.laws.specs.Range.{span, InRange}
 use Rattle.laws.proofs.Splits.{by-le, by-eq}
 use Rattle.laws.proofs.Parts.{next}
@@ -71,11 +73,15 @@ capped k top h =
 
 -- the answer of the whole, from that of the rest: i bytes with the given value stand before it
 abbrev pub finish : ℕ → ℕ → ℕ → Item → Item
-finish i value scale (Took v b n) = Took (value + scale * v) 0 (i + n)
+finish i value scale (Took own) = spelled (value + scale * own .first) (i + own .used)
 finish i value scale (Refused e) = Refused e
 
+own-is : (own : Own) → own .second ≡ 0 → own .shortest ≡ eqb (own .used) (length (shortest (own .first)))
+    → _≡_ {A = Own} (record { first = own .first; second = 0; used = own .used; shortest = eqb (own .used) (length (shortest (own .first))) }) own
+own-is own e f = rw (← f, ← e)
+
 finish-zero : (limit : ℕ) (s : List ℕ) (r : Item) → InRange limit s r → finish 0 0 1 r ≡ r
-finish-zero limit s (Took v b n) h = simp (zero-add, one-mul, h .single)
+finish-zero limit s (Took own) h = simp (zero-add, one-mul) (ap Took (own-is own (h .single) (h .form)))
 finish-zero limit s (Refused e) h = refl
 
 grow : (value scale x v : ℕ) → value + scale * (x + 128 * v) ≡ value + scale * x + scale * 128 * v
@@ -83,9 +89,9 @@ grow value scale x v = rw (mul-add scale x (128 * v), ← mul-assoc scale 128 v)
 
 finish-low : (i value scale b : ℕ) (r : Item) → finish i value scale (low b r) ≡ finish (i + 1) (value + scale * (b % 128)) (scale * 128) r
 unfolding low
-finish-low i value scale b (Took v w n) =
-    let len : i + (n + 1) ≡ i + 1 + n = omega arith in
-    rw (grow value scale (b % 128) v, len)
+finish-low i value scale b (Took own) =
+    let len : i + (own .used + 1) ≡ i + 1 + own .used = omega arith in
+    rw (grow value scale (b % 128) (own .first), len)
 finish-low i value scale b (Refused e) = refl
 
 -- one digit more, below n, and the value is below n times the scale
@@ -143,7 +149,7 @@ module _ {s : List ℕ} {most top value scale i : ℕ} (r : Reading s most top v
       go (suc m) z = (m, z)
 
   module _ (h : i < length s) where
-    pub last-good : i + 1 ≡ most → getD s i 0 ≤ top → Took (value + scale * getD s i 0) 0 (i + 1) ≡ takes most top s
+    pub last-good : i + 1 ≡ most → getD s i 0 ≤ top → spelled (value + scale * getD s i 0) (i + 1) ≡ takes most top s
     unfolding varints
     last-good e b = rw (next s i h, is-last e, le-leb _ _ b) at (r .same)
 
@@ -151,7 +157,7 @@ module _ {s : List ℕ} {most top value scale i : ℕ} (r : Reading s most top v
     unfolding varints
     last-bad e b = rw (next s i h, is-last e, lt-leb _ _ b) at (r .same)
 
-    pub short : (i + 1 ≡ most → ⊥) → getD s i 0 < 128 → Took (value + scale * (getD s i 0 % 128)) 0 (i + 1) ≡ takes most top s
+    pub short : (i + 1 ≡ most → ⊥) → getD s i 0 < 128 → spelled (value + scale * (getD s i 0 % 128)) (i + 1) ≡ takes most top s
     unfolding varints
     short e b = rw (mod-eq-of-lt b) (rw (next s i h, not-last e .1, lt-ltb _ _ b) at (r .same))
 

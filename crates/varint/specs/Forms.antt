@@ -5,9 +5,9 @@ use mathlib.Core.List.{List, [], _∷_, _++_}
 use Prim.Native.Nat.{ℕ, zero, suc, _+_, _/_, _%_, _^_, _<_, _≤_}
 use lib.ListN.{length}
 use Rattle.wire.specs.declared.Refusal.the-variants.{End, BadVarint}
-use Rattle.wire.specs.declared.Item.the-variants.{Took, Refused}
+use Rattle.wire.specs.declared.Item.the-variants.{Refused}
 use Rattle.wire.specs.Shape.{Width, w16, bits}
-use Rattle.wire.specs.Numbers.{most, last, varint}
+use Rattle.wire.specs.Numbers.{most, last, spelled, varint, took}
 
 -- a number in just so many bytes
 unfoldable pub form : ℕ → ℕ → List ℕ
@@ -17,7 +17,7 @@ form (suc (suc k)) x = (x % 128 + 128) ∷ form (suc k) (x / 128)
 
 -- overlong forms are read: any number of bytes that holds the number and is allowed
 abbrev pub AnyLength : Type 0
-AnyLength = (w : Width) (k x : ℕ) (rest : List ℕ) → k < most w → x < 128 ^ suc k → x < 2 ^ bits w → varint w (form (suc k) x ++ rest) ≡ Took x 0 (suc k)
+AnyLength = (w : Width) (k x : ℕ) (rest : List ℕ) → k < most w → x < 128 ^ suc k → x < 2 ^ bits w → varint w (form (suc k) x ++ rest) ≡ spelled x (suc k)
 
 -- bytes whose high bit is set
 pub data AreHigh : List ℕ → Type 0 where
@@ -35,7 +35,7 @@ EndsInside = (w : Width) (s : List ℕ) → AreHigh s → length s < most w → 
 -- document 01's cases 4 to 7
 abbrev pub VarintCases : Type 0
 VarintCases =
-    (varint w16 (0xff ∷ 0xff ∷ 0x03 ∷ []) ≡ Took 65535 0 3)
+    (varint w16 (0xff ∷ 0xff ∷ 0x03 ∷ []) ≡ took 65535 0 3)
     × (varint w16 (0x80 ∷ 0x80 ∷ 0x04 ∷ []) ≡ Refused BadVarint)
-    × (varint w16 (0x80 ∷ 0x00 ∷ []) ≡ Took 0 0 2)
+    × (varint w16 (0x80 ∷ 0x00 ∷ []) ≡ spelled 0 2)
     × (varint w16 (0x80 ∷ 0x80 ∷ []) ≡ Refused End)

@@ -1,12 +1,13 @@
 // Varints of three widths: low seven bits first, high bit set if more follow.
 use wire::Item;
+use wire::Own;
 use wire::Refusal;
 ghost use mathlib.Core.Path.{_≡_};
 ghost use Prim.Native.Nat.{_+_};
 ghost use lib.ListN.{length, set};
 ghost use Rattle.wire.specs.Shape.{w16, w32};
 ghost use Rattle.wire.specs.Numbers.{varint, shortest};
-ghost use Rattle.varint.specs.Takes.{limitOf, takes};
+ghost use Rattle.varint.specs.Takes.{limitOf, takes, endsShort};
 ghost use Rattle.varint.specs.Put.{Put};
 
 // Each width owns two constants: the most bytes, and the largest byte that may stand last there.
@@ -45,6 +46,16 @@ fn limit(most: usize) -> u64
     }
 }
 
+// Whether a varint of so many bytes, of which `b` is the last, is the shortest of its number.
+fn is_shortest(used: usize, b: u64) -> bool
+    ensures { λ r. ⌜ r ≡ endsShort used b ⌝ }
+{
+    if used == 1 {
+        return true;
+    }
+    0 < b
+}
+
 // A varint of at most `most` bytes at the start of `part`, of which the last allowed is at most `last`. At a width's
 // constants the compiler folds the test: a caller that must be fast names them here.
 pub fn take(part: &[u8], most: usize, last: u64) -> Item
@@ -64,10 +75,14 @@ pub fn take(part: &[u8], most: usize, last: u64) -> Item
         if next == most {
             if b <= last {
                 let whole = value + scale * b;
+                let shortest = is_shortest(next, b);
                 return Item::Took {
-                    first: whole,
-                    second: 0,
-                    used: next,
+                    own: Own {
+                        first: whole,
+                        second: 0,
+                        used: next,
+                        shortest,
+                    },
                 };
             }
             return Item::Refused {
@@ -76,10 +91,14 @@ pub fn take(part: &[u8], most: usize, last: u64) -> Item
         }
         let sum = value + scale * (b % 128);
         if b < 128 {
+            let shortest = is_shortest(next, b);
             return Item::Took {
-                first: sum,
-                second: 0,
-                used: next,
+                own: Own {
+                    first: sum,
+                    second: 0,
+                    used: next,
+                    shortest,
+                },
             };
         }
         value = sum;

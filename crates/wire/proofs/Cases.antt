@@ -8,16 +8,16 @@ use Rattle.wire.specs.Walk.{following, isKnown, all, times, nth, along, 
 use Rattle.wire.specs.Values.{part, toldAfter, tellNothing, tellOn, tellThen, tellItem, tell, isPooled, valueOf, valued, values}
 use Rattle.wire.specs.Numbers.{most, last, low, varintF, varint, shortestF, shortest, signedWord, isSignedWord, zigzag, unzigzag, word, isWord, zigzagged, unzigzagged, onFirst, little, littleBytes, inOrder, wordOf}
 use Rattle.wire.specs.Text.{widthOf, lowOf, highOf, utf8F, utf8, leadPart, sixes, firstChar, isChar, charBytes}
-use Rattle.wire.specs.Reading.{flag, counted, charOf, isContent, contentOf, readPlain, known, head, runAfter, readNothing, readOn, readThen, past, enter, readItem, read, within, fit}
+use Rattle.wire.specs.Reading.{flag, counted, charOf, isContent, contentOf, readPlain, known, head, strictly, judged, headBy, runAfter, readNothing, readOn, readThen, past, enter, readItem, read, readStrict, within, fit}
 use Rattle.wire.specs.Writing.{when, single, withCount, plainBytes, headBytes, wroteAfter, writeNothing, writeOn, writeThen, spell, writeEntry, writeItem, write}
 use Rattle.wire.specs.Append.{isOpen, matches, firsts, isOpenRoot, appends}
 use Rattle.wire.specs.Frames.{gapAfter, groups, decode, room, toZero, noMessage, feedOn, framed, feedEnd, feedFit, feed, padded}
-use Rattle.wire.specs.Answers.{numbered, done, readSays, writeSays, askSays, wordsOf, words, entriesOf, roomOf, storeWith, readBy, reads, readAnswer, restOf, mayTake, taken, takes, placeAfter, formOf, formed, writeBy, writes, writeAnswer, outWith, askBy, asks}
-use Rattle.wire.specs.Cases.{readSaid, readRun, tookSaid, wroteForm, valuesBy, isYes, fedSaid, answer, case, tableT, tabled, leafTable, fourFields, inFront, atEnd, oneVariant, twoVariants, nested, untouched, store, out, array, cases, ours, Hold}
+use Rattle.wire.specs.Answers.{numbered, done, readSays, writeSays, askSays, wordsOf, words, entriesOf, roomOf, storeWith, readBy, reads, readsStrict, readAnswer, restOf, mayTake, taken, takes, placeAfter, formOf, formed, writeBy, writes, writeAnswer, outWith, askBy, asks}
+use Rattle.wire.specs.Cases.{readSaid, readRun, tookSaid, wroteForm, valuesBy, isYes, fedSaid, answer, case, tableT, tabled, leafTable, fourFields, inFront, atEnd, oneVariant, twoVariants, nested, untouched, store, out, array, cases, ours, strict, Hold}
 
 -- to open this is to compute all definitions
 unfoldable computing : Unit {0}
-unfolding pick given both decided bits size sameKind count u16At layoutAt goodNumbers goodTrailer kinds isKind kindOf nodeAt recordOf firstChild childCount below goodPlaces goodKind goodNode checkFrom checkAt check shapesAt shapeBy shapeF shapeOf following isKnown all times nth along walk walks part toldAfter tellNothing tellOn tellThen tellItem tell isPooled valueOf valued values most last low varintF varint shortestF shortest signedWord isSignedWord zigzag unzigzag word isWord zigzagged unzigzagged onFirst little littleBytes inOrder wordOf widthOf lowOf highOf utf8F utf8 leadPart sixes firstChar isChar charBytes flag counted charOf isContent contentOf readPlain known head runAfter readNothing readOn readThen past enter readItem read within fit when single withCount plainBytes headBytes wroteAfter writeNothing writeOn writeThen spell writeEntry writeItem write isOpen matches firsts isOpenRoot appends gapAfter groups decode room toZero noMessage feedOn framed feedEnd feedFit feed padded numbered done readSays writeSays askSays wordsOf words entriesOf roomOf storeWith readBy reads readAnswer restOf mayTake taken takes placeAfter formOf formed writeBy writes writeAnswer outWith askBy asks readSaid readRun tookSaid wroteForm valuesBy isYes fedSaid answer case tableT tabled leafTable fourFields inFront atEnd oneVariant twoVariants nested untouched store out array cases ours
+unfolding pick given both decided bits size sameKind count u16At layoutAt goodNumbers goodTrailer kinds isKind kindOf nodeAt recordOf firstChild childCount below goodPlaces goodKind goodNode checkFrom checkAt check shapesAt shapeBy shapeF shapeOf following isKnown all times nth along walk walks part toldAfter tellNothing tellOn tellThen tellItem tell isPooled valueOf valued values most last low varintF varint shortestF shortest signedWord isSignedWord zigzag unzigzag word isWord zigzagged unzigzagged onFirst little littleBytes inOrder wordOf widthOf lowOf highOf utf8F utf8 leadPart sixes firstChar isChar charBytes flag counted charOf isContent contentOf readPlain known head strictly judged headBy runAfter readNothing readOn readThen past enter readItem read readStrict within fit when single withCount plainBytes headBytes wroteAfter writeNothing writeOn writeThen spell writeEntry writeItem write isOpen matches firsts isOpenRoot appends gapAfter groups decode room toZero noMessage feedOn framed feedEnd feedFit feed padded numbered done readSays writeSays askSays wordsOf words entriesOf roomOf storeWith readBy reads readsStrict readAnswer restOf mayTake taken takes placeAfter formOf formed writeBy writes writeAnswer outWith askBy asks readSaid readRun tookSaid wroteForm valuesBy isYes fedSaid answer case tableT tabled leafTable fourFields inFront atEnd oneVariant twoVariants nested untouched store out array cases ours strict
 computing = tt
 
 pub cases-hold : Hold cases
@@ -27,3 +27,7 @@ cases-hold = refl
 pub ours-hold : Hold ours
 unfolding computing
 ours-hold = refl
+
+pub strict-hold : Hold strict
+unfolding computing
+strict-hold = refl

@@ -8,7 +8,7 @@ use Prim.Native.Nat.{ℕ, _+_, _/_, _%_}
 use lib.ListN.{length, drop}
 use lib.Dec.{leb, ltb, eqb}
 use Rattle.wire.specs.declared.Refusal.{Refusal}
-use Rattle.wire.specs.declared.Refusal.the-variants.{Trailer, Record, End, BadVarint, BadBool, BadChar, BadUtf8, BadOption, Variant, Room, Values, Full}
+use Rattle.wire.specs.declared.Refusal.the-variants.{Trailer, Record, End, BadVarint, BadBool, BadChar, BadUtf8, BadOption, Variant, Room, Values, Full, NotShortest}
 use Rattle.wire.specs.declared.Checked.{Checked}
 use Rattle.wire.specs.declared.Checked.the-variants.{Good, Bad}
 use Rattle.wire.specs.declared.Item.{Item}
@@ -28,7 +28,8 @@ use Rattle.wire.specs.declared.FeedAnswer.the-variants.{Consumed, OverFu
 use Rattle.wire.specs.Tests.{pick, given, both}
 use Rattle.wire.specs.Table.{isKind, kindOf, check, shapeOf}
 use Rattle.wire.specs.Values.{Entry}
-use Rattle.wire.specs.Reading.{head, front, Outcome, reached, refused, Run, read, fit}
+use Rattle.wire.specs.Walk.{walk}
+use Rattle.wire.specs.Reading.{head, headBy, front, Outcome, reached, refused, Run, reading, fit}
 use Rattle.wire.specs.Writing.{Left, Wrote, wrote, misfit, write}
 use Rattle.wire.specs.Append.{appends}
 
@@ -47,6 +48,7 @@ refusalNumber Variant = 9
 refusalNumber Room = 10
 refusalNumber Values = 11
 refusalNumber Full = 12
+refusalNumber NotShortest = 16
 
 -- which table is refused: 0 old, 1 new
 abbrev pub sideNumber : Side → ℕ
@@ -125,13 +127,17 @@ storeWith es store = words es ++ drop (length (words es)) store
 
 -- ---- reading
 
--- what a table makes of a message, with room for so many entries
-unfoldable pub readBy : Checked → List ℕ → ℕ → List ℕ → Run
-readBy (Good l) table room message = fit room (read (shapeOf table l) (front message))
-readBy (Bad why i) table room message = record { made = []; ends = refused why i }
+-- what a table makes of a message, with room for so many entries, strictly or not
+unfoldable pub readBy : (strict : Bool) → Checked → List ℕ → ℕ → List ℕ → Run
+readBy strict (Good l) table room message = fit room (walk (reading (headBy strict)) (shapeOf table l) (front message))
+readBy strict (Bad why i) table room message = record { made = []; ends = refused why i }
 
 unfoldable pub reads : List ℕ → List ℕ → List ℕ → Run
-reads table message store = readBy (check table) table (roomOf store) message
+reads table message store = readBy false (check table) table (roomOf store) message
+
+-- the strict reading
+unfoldable pub readsStrict : List ℕ → List ℕ → List ℕ → Run
+readsStrict table message store = readBy true (check table) table (roomOf store) message
 
 -- the answer of a run that made so many entries
 unfoldable pub readAnswer : Outcome → ℕ → ReadAnswer
@@ -144,7 +150,7 @@ runAnswer r = readAnswer (r .ends) (length (r .made))
 
 -- a reading that stores nothing, with room for so many entries
 unfoldable pub skims : List ℕ → List ℕ → (room : ℕ) → ReadAnswer
-skims table message room = runAnswer (readBy (check table) table room message)
+skims table message room = runAnswer (readBy false (check table) table room message)
 
 -- the unread bytes: none on a refusal, and none where the answer points beyond the message
 unfoldable pub restOf : List ℕ → ReadAnswer → List ℕ
@@ -157,7 +163,7 @@ unfoldable pub mayTake : ℕ → Bool
 mayTake k = pick (ltb k 14) true (both (leb 20 k) (isKind k))
 
 unfoldable pub taken : ℕ → Item → TakeAnswer
-taken p (Took a b used) = Taken a b p (p + used)
+taken p (Took own) = Taken (own .first) (own .second) p (p + own .used)
 taken p (Refused why) = NotTaken why p
 
 unfoldable pub takes : ℕ → List ℕ → ℕ → TakeAnswer

@@ -17,12 +17,12 @@ use Rattle.wire.specs.Table.{check, shapeOf}
 use Rattle.wire.specs.Values.{Value, number, content, Valued, whole, tooShort, unknown, values}
 use Rattle.wire.specs.Reading.{Run}
 use Rattle.wire.specs.Frames.{Fed, padded, feed}
-use Rattle.wire.specs.Answers.{refusalNumber, feedNumber, Numbered, readSays, writeSays, askSays, entriesOf, storeWith, reads, readAnswer, restOf, takes, placeAfter, Form, writes, writeAnswer, outWith, asks}
+use Rattle.wire.specs.Answers.{refusalNumber, feedNumber, Numbered, readSays, writeSays, askSays, entriesOf, storeWith, reads, readsStrict, readAnswer, restOf, takes, placeAfter, Form, writes, writeAnswer, outWith, asks}
 
 -- ---- calls and answers
 
 pub data Call : Type 0 where
-  reading : (table message store : List ℕ) → Call
+  reading readingStrictly : (table message store : List ℕ) → Call
   taking : (kind : ℕ) (message : List ℕ) (place : ℕ) → Call
   writing : (table ws pool out : List ℕ) → Call
   valuing : (table ws pool : List ℕ) → Call
@@ -65,6 +65,7 @@ fedSaid got = fed (feedNumber (got .answer)) (got .message) (got .rest) (got .ar
 
 unfoldable pub answer : Call → Said
 answer (reading table message store) = readRun (reads table message store) message store
+answer (readingStrictly table message store) = readRun (readsStrict table message store) message store
 answer (taking kind message place) = tookSaid place (takes kind message place)
 answer (writing table ws pool out) = wroteForm (writes table ws pool (length out)) out
 answer (valuing table ws pool) = valuesBy (check table) table ws pool
@@ -203,4 +204,27 @@ ours =
     ∷ case (taking 6 (0x05 ∷ 0x80 ∷ []) 1) (took 3 1 0 0 0 1)
     ∷ case (taking 6 (0x05 ∷ 0x81 ∷ 0x01 ∷ []) 1) (took 0 3 129 0 1 3)
     ∷ case (taking 5 (0x05 ∷ []) 2) (took 3 2 0 0 0 2)
+    ∷ []
+
+-- the strict reading: a form that isn't the shortest is 16 at its item, after 10, 3, 6, 7 and 9, and before its elements are looked at
+unfoldable pub strict : List Case
+strict =
+    case (readingStrictly tableT (0xac ∷ 0x02 ∷ 0x05 ∷ 0x03 ∷ []) store) (read 0 4 4 (0 ∷ 0 ∷ 0 ∷ 300 ∷ 0 ∷ 0 ∷ 5 ∷ 0 ∷ 2 ∷ 18446744073709551614 ∷ 0 ∷ 3 ∷ untouched 2) [])
+    ∷ case (readingStrictly tableT (0xac ∷ 0x82 ∷ 0x00 ∷ 0x05 ∷ 0x03 ∷ []) store) (read 16 0 1 (0 ∷ 0 ∷ 0 ∷ untouched 11) [])
+    ∷ case (readingStrictly tableT (0xac ∷ 0x02 ∷ 0x05 ∷ 0x83 ∷ 0x00 ∷ []) store) (read 16 3 3 (0 ∷ 0 ∷ 0 ∷ 300 ∷ 0 ∷ 0 ∷ 5 ∷ 0 ∷ 2 ∷ untouched 5) [])
+    ∷ case (readingStrictly tableT (0xac ∷ 0x02 ∷ 0x05 ∷ 0x83 ∷ 0x00 ∷ []) (untouched 9)) (read 10 3 3 (0 ∷ 0 ∷ 0 ∷ 300 ∷ 0 ∷ 0 ∷ 5 ∷ 0 ∷ 2 ∷ []) [])
+    ∷ case (readingStrictly (leafTable 6) (0x80 ∷ 0x00 ∷ []) store) (read 16 0 0 store [])
+    ∷ case (readingStrictly (leafTable 6) (0x00 ∷ []) store) (read 0 1 1 (0 ∷ 0 ∷ 0 ∷ untouched 11) [])
+    ∷ case (readingStrictly (leafTable 2) (0x81 ∷ 0x00 ∷ []) store) (read 16 0 0 store [])
+    ∷ case (readingStrictly (leafTable 11) (0x01 ∷ 0x61 ∷ []) store) (read 0 2 1 (97 ∷ 0 ∷ 0 ∷ untouched 11) [])
+    ∷ case (readingStrictly (leafTable 11) (0x02 ∷ 0x61 ∷ 0x62 ∷ []) store) (read 16 0 0 store [])
+    ∷ case (readingStrictly (leafTable 11) (0x81 ∷ 0x00 ∷ 0x61 ∷ []) store) (read 16 0 0 store [])
+    ∷ case (readingStrictly (leafTable 11) (0x81 ∷ 0x00 ∷ 0xc3 ∷ []) store) (read 6 0 0 store [])
+    ∷ case (readingStrictly (leafTable 12) (0x82 ∷ 0x00 ∷ 0x61 ∷ []) store) (read 3 0 0 store [])
+    ∷ case (readingStrictly (leafTable 12) (0x81 ∷ 0x00 ∷ 0xc3 ∷ []) store) (read 7 0 0 store [])
+    ∷ case (readingStrictly (leafTable 12) (0x81 ∷ 0x00 ∷ 0x61 ∷ []) store) (read 16 0 0 store [])
+    ∷ case (readingStrictly (leafTable 13) (0x81 ∷ 0x00 ∷ 0x07 ∷ []) store) (read 16 0 0 store [])
+    ∷ case (readingStrictly oneVariant (0x81 ∷ 0x00 ∷ []) store) (read 16 0 0 store [])
+    ∷ case (readingStrictly oneVariant (0x01 ∷ 0x81 ∷ 0x00 ∷ []) store) (read 9 1 1 (1 ∷ 0 ∷ 0 ∷ untouched 11) [])
+    ∷ case (readingStrictly oneVariant (0x01 ∷ 0x80 ∷ 0x00 ∷ 0x05 ∷ []) store) (read 16 1 1 (1 ∷ 0 ∷ 0 ∷ untouched 11) [])
     ∷ []

@@ -1,5 +1,5 @@
 -- Varints, zigzag and fixed-size integers: how a number stands in bytes, and how its word stands for it.
--- Letters: s bytes, b a byte, x a number, a a word, z its zigzag, n how many bits, w a width, f a change of a word.
+-- Letters: s bytes, b a byte, x a number, a a word and b the one behind it, z its zigzag, n how many bits, w a width, f a change of a word.
 -- Assumes nothing.
 use mathlib.Core.Bool.{Bool, true}
 use mathlib.Core.List.{List, [], _∷_, reverse}
@@ -25,21 +25,6 @@ last w16 = 3
 last w32 = 15
 last w64 = 1
 
--- a byte whose high bit is set, in front of a varint: its low seven bits come lowest
-unfoldable pub low : ℕ → Item → Item
-low b (Took a second used) = Took (b % 128 + 128 * a) 0 (used + 1)
-low b (Refused why) = Refused why
-
--- a varint of at most so many bytes, of which the last allowed is at most `top`
-unfoldable pub varintF : ℕ → ℕ → List ℕ → Item
-varintF zero top s = Refused BadVarint
-varintF (suc count) top [] = Refused End
-varintF (suc zero) top (b ∷ s) = pick (leb b top) (Took b 0 1) (Refused BadVarint)
-varintF (suc (suc count)) top (b ∷ s) = pick (ltb b 128) (Took b 0 1) (low b (varintF (suc count) top s))
-
-unfoldable pub varint : Width → List ℕ → Item
-varint w s = varintF (most w) (last w) s
-
 -- the shortest varint, of at most so many bytes
 unfoldable pub shortestF : ℕ → ℕ → List ℕ
 shortestF zero x = []
@@ -47,6 +32,25 @@ shortestF (suc count) x = pick (ltb x 128) (x ∷ []) ((x % 128 + 128) ∷ short
 
 unfoldable pub shortest : ℕ → List ℕ
 shortest x = shortestF (most w64) x
+
+-- a number read of so many bytes: they are its shortest form if that has as many
+abbrev pub spelled : (x used : ℕ) → Item
+spelled x used = Took (record { first = x; second = 0; used = used; shortest = eqb used (length (shortest x)) })
+
+-- a byte whose high bit is set, in front of a varint: its low seven bits come lowest
+unfoldable pub low : ℕ → Item → Item
+low b (Took own) = spelled (b % 128 + 128 * own .first) (own .used + 1)
+low b (Refused why) = Refused why
+
+-- a varint of at most so many bytes, of which the last allowed is at most `top`
+unfoldable pub varintF : ℕ → ℕ → List ℕ → Item
+varintF zero top s = Refused BadVarint
+varintF (suc count) top [] = Refused End
+varintF (suc zero) top (b ∷ s) = pick (leb b top) (spelled b 1) (Refused BadVarint)
+varintF (suc (suc count)) top (b ∷ s) = pick (ltb b 128) (spelled b 1) (low b (varintF (suc count) top s))
+
+unfoldable pub varint : Width → List ℕ → Item
+varint w s = varintF (most w) (last w) s
 
 -- ---- words of signed numbers
 
@@ -84,10 +88,14 @@ unzigzagged signed z = unzigzag z
 unzigzagged unsigned z = z
 
 unfoldable pub onFirst : (ℕ → ℕ) → Item → Item
-onFirst f (Took a second used) = Took (f a) second used
+onFirst f (Took own) = Took (record { first = f (own .first); second = own .second; used = own .used; shortest = own .shortest })
 onFirst f (Refused why) = Refused why
 
--- ---- fixed-size numbers
+-- ---- numbers of one form
+
+-- words read of so many bytes that are their only form, and so the shortest
+abbrev pub took : (a b used : ℕ) → Item
+took a b used = Took (record { first = a; second = b; used = used; shortest = true })
 
 unfoldable pub little : List ℕ → ℕ
 little [] = 0
@@ -103,4 +111,4 @@ inOrder be s = reverse s
 
 -- so many bytes, and the word that is made of them
 unfoldable pub wordOf : ℕ → (List ℕ → ℕ) → List ℕ → Item
-wordOf count made s = pick (leb count (length s)) (Took (made (take count s)) 0 count) (Refused End)
+wordOf count made s = pick (leb count (length s)) (took (made (take count s)) 0 count) (Refused End)

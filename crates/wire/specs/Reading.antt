@@ -6,45 +6,55 @@ use mathlib.Core.Bool.{Bool, true, false}
 use mathlib.Core.List.{List, [], _∷_, _++_}
 use Prim.Native.Nat.{ℕ, zero, suc, _+_}
 use lib.ListN.{length, take, drop}
-use lib.Dec.{ltb, leb}
+use lib.Dec.{ltb, leb, eqb}
 use Rattle.wire.specs.declared.Refusal.{Refusal}
-use Rattle.wire.specs.declared.Refusal.the-variants.{End, BadBool, BadChar, BadUtf8, BadOption, Variant, Room}
+use Rattle.wire.specs.declared.Refusal.the-variants.{End, BadBool, BadChar, BadUtf8, BadOption, Variant, Room, NotShortest}
+use Rattle.wire.specs.declared.Own.{Own}
 use Rattle.wire.specs.declared.Item.{Item}
 use Rattle.wire.specs.declared.Item.the-variants.{Took, Refused}
 use Rattle.wire.specs.Tests.{pick, both}
 use Rattle.wire.specs.Shape.{bits, size, w32, w64, signed, Plain, bool, i8, u8, f32, f64, char, unit, int, fixed, Content, text, raw, Kind, plain, pooled, option, sequence, map, struct, enum, Shape}
 use Rattle.wire.specs.Walk.{Walk, walk}
 use Rattle.wire.specs.Values.{Entry}
-use Rattle.wire.specs.Numbers.{varint, word, unzigzagged, onFirst, little, inOrder, wordOf}
-use Rattle.wire.specs.Text.{utf8, firstChar}
+use Rattle.wire.specs.Numbers.{varint, word, unzigzagged, onFirst, took, little, inOrder, wordOf}
+use Rattle.wire.specs.Text.{utf8, firstChar, charBytes}
 
 -- ---- an item's own bytes
 
 -- one byte that is 0 or 1
 unfoldable pub flag : Refusal → List ℕ → Item
 flag why [] = Refused End
-flag why (byte ∷ s) = pick (leb byte 1) (Took byte 0 1) (Refused why)
+flag why (byte ∷ s) = pick (leb byte 1) (took byte 0 1) (Refused why)
 
--- a count, the bytes that it used, and what stands behind it
-unfoldable pub counted : Item → (ℕ → ℕ → Item) → Item
-counted (Took count b used) behind = behind count used
+-- a count as it was read, and what stands behind it
+unfoldable pub counted : Item → (Own → Item) → Item
+counted (Took count) behind = behind count
 counted (Refused why) behind = Refused why
 
--- so many bytes behind their count, which used some: at most four, then there, then UTF-8 with a char
-unfoldable pub charOf : ℕ → ℕ → List ℕ → Item
-charOf count used s =
-    pick (ltb 4 count) (Refused BadChar)
-    (pick (ltb (length s) count) (Refused End)
-    (pick (both (ltb 0 count) (utf8 (take count s))) (Took (firstChar (take count s)) 0 (used + count)) (Refused BadChar)))
+-- the char that bytes behind their count start with: the shortest form if the count is in its own and there are no more than the char's
+abbrev pub charIn : Own → List ℕ → Own
+charIn count s =
+    record { first = firstChar s; second = 0; used = count .used + count .first; shortest = both (count .shortest) (eqb (count .first) (length (charBytes (firstChar s)))) }
+
+-- as many bytes as their count says: at most four, then there, then UTF-8 with a char
+unfoldable pub charOf : Own → List ℕ → Item
+charOf count s =
+    pick (ltb 4 (count .first)) (Refused BadChar)
+    (pick (ltb (length s) (count .first)) (Refused End)
+    (pick (both (ltb 0 (count .first)) (utf8 (take (count .first) s))) (Took (charIn count (take (count .first) s))) (Refused BadChar)))
 
 unfoldable pub isContent : Content → List ℕ → Bool
 isContent text s = utf8 s
 isContent raw s = true
 
--- so many bytes behind their count, which used some and stands at the place p
-unfoldable pub contentOf : Content → ℕ → ℕ → ℕ → List ℕ → Item
-contentOf content p count used s =
-    pick (ltb (length s) count) (Refused End) (pick (isContent content (take count s)) (Took (p + used) count (used + count)) (Refused BadUtf8))
+-- where the bytes behind a count at the place p stand: the shortest form if the count is
+abbrev pub contentIn : (p : ℕ) → Own → Own
+contentIn p count = record { first = p + count .used; second = count .first; used = count .used + count .first; shortest = count .shortest }
+
+-- as many bytes as their count says, which stands at the place p
+unfoldable pub contentOf : Content → ℕ → Own → List ℕ → Item
+contentOf content p count s =
+    pick (ltb (length s) (count .first)) (Refused End) (pick (isContent content (take (count .first) s)) (Took (contentIn p count)) (Refused BadUtf8))
 
 unfoldable pub readPlain : Plain → List ℕ → Item
 readPlain bool s = flag BadBool s
@@ -52,13 +62,13 @@ readPlain i8 s = wordOf 1 (λ own. word signed 8 (little own)) s
 readPlain u8 s = wordOf 1 little s
 readPlain f32 s = wordOf 4 little s
 readPlain f64 s = wordOf 8 little s
-readPlain char s = counted (varint w64 s) (λ count used. charOf count used (drop used s))
-readPlain unit s = Took 0 0 0
+readPlain char s = counted (varint w64 s) (λ count. charOf count (drop (count .used) s))
+readPlain unit s = took 0 0 0
 readPlain (int sign width) s = onFirst (unzigzagged sign) (varint width s)
 readPlain (fixed order sign width) s = wordOf (size width) (λ own. word sign (bits width) (little (inOrder order own))) s
 
 unfoldable pub known : ℕ → Item → Item
-known n (Took a b used) = pick (ltb a n) (Took a b used) (Refused Variant)
+known n (Took own) = pick (ltb (own .first) n) (Took own) (Refused Variant)
 known n (Refused why) = Refused why
 
 -- the own bytes of an item of a kind with n children, which stands at the place p, where the bytes s are
@@ -67,12 +77,25 @@ Head = Kind → (n p : ℕ) → List ℕ → Item
 
 unfoldable pub head : Head
 head (plain leaf) n p s = readPlain leaf s
-head (pooled content) n p s = counted (varint w64 s) (λ count used. contentOf content p count used (drop used s))
+head (pooled content) n p s = counted (varint w64 s) (λ count. contentOf content p count (drop (count .used) s))
 head option n p s = flag BadOption s
 head sequence n p s = varint w64 s
 head map n p s = varint w64 s
-head struct n p s = Took 0 0 0
+head struct n p s = took 0 0 0
 head enum n p s = known n (varint w32 s)
+
+-- a form that is not the shortest is refused, after every other refusal of the item
+unfoldable pub strictly : Item → Item
+strictly (Took own) = pick (own .shortest) (Took own) (Refused NotShortest)
+strictly (Refused why) = Refused why
+
+-- an item as a strict reading takes it, or as the plain one does
+unfoldable pub judged : (strict : Bool) → Item → Item
+judged true i = strictly i
+judged false i = i
+
+unfoldable pub headBy : (strict : Bool) → Head
+headBy strict = λ k n p s. judged strict (head k n p s)
 
 -- ---- a message
 
@@ -113,10 +136,14 @@ readThen f g x = readOn (f x .made) (f x .ends) g
 unfoldable pub past : ℕ → Spot → Spot
 past used x = record { bytes = drop used (x .bytes); place = x .place + used }
 
+-- the entry of an item at a spot
+abbrev pub entryOf : Own → Spot → Entry
+entryOf own x = record { first = own .first; second = own .second; place = x .place }
+
 -- an item's entry, and then its children
 unfoldable pub enter : Item → (ℕ → Spot → Run) → Spot → Run
 enter (Refused why) next x = record { made = []; ends = refused why (x .place) }
-enter (Took a b used) next x = runAfter (record { first = a; second = b; place = x .place } ∷ []) (next a (past used x))
+enter (Took own) next x = runAfter (entryOf own x ∷ []) (next (own .first) (past (own .used) x))
 
 unfoldable pub readItem : Head → Kind → ℕ → (ℕ → Spot → Run) → Spot → Run
 readItem h k n next x = enter (h k n (x .place) (x .bytes)) next x
@@ -127,6 +154,10 @@ reading h = record { From = Spot; To = Run; nothing = readNothing; then = readTh
 -- the rules of the wire, for any number of entries
 unfoldable pub read : Shape → Spot → Run
 read t x = walk (reading head) t x
+
+-- the same, for items that are all in their shortest forms
+unfoldable pub readStrict : Shape → Spot → Run
+readStrict t x = walk (reading (headBy true)) t x
 
 -- ---- a store
 

@@ -14,6 +14,7 @@ pub enum Refusal {
     Room,
     Values,
     Full,
+    NotShortest,
 }
 
 // Where a table's parts stand: its node records, its child list of so many places, and its root.
@@ -31,16 +32,19 @@ pub enum Checked {
     Bad { why: Refusal, place: usize },
 }
 
-// An item's own bytes: its two words and how many bytes it took, or why it is refused.
+// What was read of an item's own bytes: whether that was the shortest form, its two words, and how many bytes it took. The
+// mark stands first: the compiler keeps an item in registers only so.
+pub struct Own {
+    pub shortest: bool,
+    pub first: u64,
+    pub second: u64,
+    pub used: usize,
+}
+
+// An item: what was read of its own bytes, or why it is refused.
 pub enum Item {
-    Took {
-        first: u64,
-        second: u64,
-        used: usize,
-    },
-    Refused {
-        why: Refusal,
-    },
+    Took { own: Own },
+    Refused { why: Refusal },
 }
 
 // How a reading ends: the bytes read, or a refusal and its place; and the entries made.

@@ -11,8 +11,15 @@ pub const W16: Width = Width(3, 3);
 pub const W32: Width = Width(5, 15);
 pub const W64: Width = Width(10, 1);
 
-/// Value and bytes used, or answer 3 or 4.
-pub fn varint(width: Width, m: &[u8]) -> Result<(u64, usize), u8> {
+/// A varint that was read: its value, the bytes used, and whether that was the shortest form.
+struct Varint {
+    value: u64,
+    used: usize,
+    shortest: bool,
+}
+
+/// Reads a varint, or answers 3 or 4.
+fn varint(width: Width, m: &[u8]) -> Result<Varint, u8> {
     let mut value = 0u64;
     for i in 0..width.0 {
         let &b = m.get(i).ok_or(3u8)?;
@@ -21,7 +28,8 @@ pub fn varint(width: Width, m: &[u8]) -> Result<(u64, usize), u8> {
         }
         value += u64::from(b % 128) << (7 * i);
         if b < 128 {
-            return Ok((value, i + 1));
+            // A last byte of 0 could be left out, but not an only one.
+            return Ok(Varint { value, used: i + 1, shortest: b > 0 || i == 0 });
         }
     }
     unreachable!("a last allowed byte with its high bit set is over the largest")
@@ -74,7 +82,20 @@ pub fn utf8(mut m: &[u8]) -> bool {
 struct Reader<'m> {
     table: &'m Table,
     room: usize,
+    strict: bool,
     entries: Vec<Entry>,
+}
+
+/// An item's own bytes: its two words, how many bytes there are, and whether that is the shortest form.
+struct Own {
+    words: [u64; 2],
+    used: usize,
+    shortest: bool,
+}
+
+/// One of a fixed number of bytes, which has no other form.
+fn fixed(word: u64, used: usize) -> Own {
+    Own { words: [word, 0], used, shortest: true }
 }
 
 impl Reader<'_> {
@@ -83,7 +104,11 @@ impl Reader<'_> {
         if self.entries.len() >= self.room {
             return Err(Refusal { no: 10, place: at });
         }
-        let ([w0, w1], used) = self.own(node, &m[at..], at).map_err(|no| Refusal { no, place: at })?;
+        let Own { words: [w0, w1], used, shortest } =
+            self.own(node, &m[at..], at).map_err(|no| Refusal { no, place: at })?;
+        if self.strict && !shortest {
+            return Err(Refusal { no: 16, place: at });
+        }
         self.entries.push([w0, w1, at as u64]);
         let mut at = at + used;
         let table = self.table;
@@ -108,13 +133,13 @@ impl Reader<'_> {
         Ok(at)
     }
 
-    /// The item's own bytes, which are the first of `m`: its two words and how many there are.
-    fn own(&self, node: usize, m: &[u8], at: usize) -> Result<([u64; 2], usize), u8> {
+    /// The item's own bytes, which are the first of `m`.
+    fn own(&self, node: usize, m: &[u8], at: usize) -> Result<Own, u8> {
         let node = &self.table.nodes[node];
-        let plain = |(value, used): (u64, usize)| ([value, 0], used);
-        let zigzag = |(z, used): (u64, usize)| {
+        let plain = |Varint { value, used, shortest }| Own { words: [value, 0], used, shortest };
+        let zigzag = |Varint { value: z, used, shortest }| {
             let x = if z % 2 == 0 { z / 2 } else { (z / 2 + 1).wrapping_neg() };
-            ([x, 0], used)
+            Own { words: [x, 0], used, shortest }
         };
         let little = |len: usize| -> Result<u64, u8> {
             let b = m.get(..len).ok_or(3u8)?;
@@ -132,33 +157,33 @@ impl Reader<'_> {
                 v
             }
         };
-        let counted = || -> Result<(usize, usize), u8> {
-            let (len, used) = varint(W64, m)?;
+        let counted = || -> Result<(usize, usize, bool), u8> {
+            let Varint { value: len, used, shortest } = varint(W64, m)?;
             // Compared with what is left; a hostile length is never added to anything.
             if len > (m.len() - used) as u64 {
                 Err(3)
             } else {
-                Ok((len as usize, used))
+                Ok((len as usize, used, shortest))
             }
         };
         Ok(match node.kind {
             table::BOOL | table::OPTION => match m.first() {
                 None => return Err(3),
-                Some(&b @ (0 | 1)) => ([b.into(), 0], 1),
+                Some(&b @ (0 | 1)) => fixed(b.into(), 1),
                 Some(_) => return Err(if node.kind == table::BOOL { 5 } else { 8 }),
             },
-            table::I8 => ([sign(little(1)?, 1), 0], 1),
-            table::U8 => ([little(1)?, 0], 1),
+            table::I8 => fixed(sign(little(1)?, 1), 1),
+            table::U8 => fixed(little(1)?, 1),
             table::I16 => zigzag(varint(W16, m)?),
             table::I32 => zigzag(varint(W32, m)?),
             table::I64 => zigzag(varint(W64, m)?),
             table::U16 => plain(varint(W16, m)?),
             table::U32 => plain(varint(W32, m)?),
             table::U64 | table::SEQ | table::MAP => plain(varint(W64, m)?),
-            table::F32 => ([little(4)?, 0], 4),
-            table::F64 => ([little(8)?, 0], 8),
+            table::F32 => fixed(little(4)?, 4),
+            table::F64 => fixed(little(8)?, 8),
             table::CHAR => {
-                let (len, used) = varint(W64, m)?;
+                let Varint { value: len, used, shortest } = varint(W64, m)?;
                 if len > 4 {
                     return Err(6);
                 }
@@ -166,29 +191,30 @@ impl Reader<'_> {
                 if !utf8(bytes) {
                     return Err(6);
                 }
-                let (code, _) = first_char(bytes).ok_or(6u8)?;
-                ([code.into(), 0], used + len as usize)
+                let (code, width) = first_char(bytes).ok_or(6u8)?;
+                let shortest = shortest && bytes.len() == width;
+                Own { words: [code.into(), 0], used: used + bytes.len(), shortest }
             }
             table::STR | table::BYTES => {
-                let (len, used) = counted()?;
+                let (len, used, shortest) = counted()?;
                 if node.kind == table::STR && !utf8(&m[used..used + len]) {
                     return Err(7);
                 }
-                ([(at + used) as u64, len as u64], used + len)
+                Own { words: [(at + used) as u64, len as u64], used: used + len, shortest }
             }
-            table::UNIT | table::STRUCT => ([0, 0], 0),
+            table::UNIT | table::STRUCT => fixed(0, 0),
             table::ENUM => {
-                let (number, used) = varint(W32, m)?;
-                if number >= node.kids.len() as u64 {
+                let number = varint(W32, m)?;
+                if number.value >= node.kids.len() as u64 {
                     return Err(9);
                 }
-                ([number, 0], used)
+                plain(number)
             }
             kind @ 20..=31 => {
                 let i = (kind - 20) % 6;
                 let len = [2, 4, 8][usize::from(i % 3)];
                 let v = if kind <= 25 { little(len)? } else { big(len)? };
-                ([if i < 3 { sign(v, len) } else { v }, 0], len)
+                fixed(if i < 3 { sign(v, len) } else { v }, len)
             }
             _ => unreachable!("checked table"),
         })
@@ -196,11 +222,19 @@ impl Reader<'_> {
 }
 
 pub fn read<'m>(file: &[u8], message: &'m [u8], store_words: usize) -> ReadAnswer<'m> {
+    reading(file, message, store_words, false)
+}
+
+pub fn read_strict<'m>(file: &[u8], message: &'m [u8], store_words: usize) -> ReadAnswer<'m> {
+    reading(file, message, store_words, true)
+}
+
+fn reading<'m>(file: &[u8], message: &'m [u8], store_words: usize, strict: bool) -> ReadAnswer<'m> {
     let table = match Table::parse(file) {
         Ok(table) => table,
         Err(Refusal { no, place }) => return ReadAnswer { no, place, entries: vec![], rest: &[] },
     };
-    let mut reader = Reader { table: &table, room: store_words / 3, entries: vec![] };
+    let mut reader = Reader { table: &table, room: store_words / 3, strict, entries: vec![] };
     let done = reader.item(table.root, message, 0);
     let entries = reader.entries;
     match done {

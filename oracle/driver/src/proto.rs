@@ -2,7 +2,7 @@
 
 use crate::append::{appends, Which};
 use crate::feed::{feed, ROOM};
-use crate::{model, read, write, Entry, ReadAnswer, Refusal};
+use crate::{model, read, strict, write, Entry, ReadAnswer, Refusal};
 use core::fmt::Write;
 
 pub fn hex(bytes: &[u8]) -> String {
@@ -62,13 +62,18 @@ fn write_text(a: &Result<Vec<u8>, Refusal>) -> String {
     }
 }
 
-/// Answers one request line. With `from_document` the crate-free model answers R and W.
+/// Answers one request line. With `from_document` the crate-free model answers R, S and W.
 pub fn answer(line: &str, from_document: bool) -> Result<String, String> {
     let f: Vec<&str> = line.split_ascii_whitespace().collect();
     match f[..] {
-        ["R", table, message, store_words] => {
+        [how @ ("R" | "S"), table, message, store_words] => {
             let (table, message) = (unhex(table)?, unhex(message)?);
-            let read = if from_document { model::read } else { read::read };
+            let read = match (how, from_document) {
+                ("R", false) => read::read,
+                ("R", true) => model::read,
+                (_, false) => strict::read,
+                (_, true) => model::read_strict,
+            };
             Ok(read_text(&read(&table, &message, number(store_words)? as usize)))
         }
         ["W", table, list, pool, out_len] => {

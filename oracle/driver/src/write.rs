@@ -162,6 +162,37 @@ impl Serialize for Value<'_, '_> {
     }
 }
 
+/// One item without its children: a count and no elements, a variant's number, an option's byte.
+struct Alone<'p> {
+    kind: u8,
+    entry: Entry,
+    pool: &'p [u8],
+}
+
+impl Serialize for Alone<'_> {
+    fn serialize<S: Serializer>(&self, s: S) -> Result<S::Ok, S::Error> {
+        let Alone { kind, entry: entry @ [w0, ..], pool } = *self;
+        match kind {
+            table::OPTION if w0 == 0 => s.serialize_none(),
+            table::OPTION => s.serialize_some(&()),
+            table::SEQ => s.serialize_seq(Some(w0 as usize))?.end(),
+            table::MAP => s.serialize_map(Some(w0 as usize))?.end(),
+            table::STRUCT => s.serialize_tuple(0)?.end(),
+            table::ENUM => s.serialize_unit_variant("", w0 as u32, ""),
+            _ => {
+                let list = List { table: &Table::leaf(kind), entries: &[entry], pool, at: Cell::new(0) };
+                Value { list: &list, node: 0 }.serialize(s)
+            }
+        }
+    }
+}
+
+/// Whether an item's own bytes are the ones that the crate writes for its value.
+pub fn is_written_so(kind: u8, entry: Entry, pool: &[u8], own: &[u8]) -> bool {
+    let mut out = vec![0; own.len()];
+    postcard::to_slice(&Alone { kind, entry, pool }, &mut out).expect("no longer than what was read") == own
+}
+
 /// What stands in the output before the call; the crate must leave it alone past its bytes.
 const UNTOUCHED: u8 = 0xA5;
 

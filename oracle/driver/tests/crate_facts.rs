@@ -86,6 +86,41 @@ fn nan_bits() {
     }
 }
 
+/// T-06: longer forms, which the crate reads and doesn't write.
+#[test]
+fn longer_forms_are_read_but_not_written() {
+    use oracle_driver::{strict, table::*};
+    let strictly = |kind, m: &[u8]| {
+        let got = strict::read_good(&Table::leaf(kind), m, 1);
+        (got.no, got.place, got.entries.len())
+    };
+    assert_eq!(postcard::from_bytes::<u16>(&[0x80, 0]), Ok(0));
+    assert_eq!(postcard::to_slice(&0u16, &mut [0; 3]).map(|out| out.len()), Ok(1));
+    assert_eq!((strictly(U16, &[0x80, 0]), strictly(U16, &[0])), ((16, 0, 0), (0, 1, 1)));
+    assert_eq!(postcard::from_bytes::<char>(&[2, 0x61, 0x62]), Ok('a'));
+    assert_eq!(postcard::to_slice(&'a', &mut [0; 5]).map(|out| out.len()), Ok(2));
+    assert_eq!((strictly(CHAR, &[2, 0x61, 0x62]), strictly(CHAR, &[1, 0x61])), ((16, 0, 0), (0, 2, 1)));
+    assert_eq!((strictly(STR, &[0x81, 0, 0x61]), strictly(STR, &[1, 0x61])), ((16, 0, 0), (0, 2, 1)));
+    // The item's own refusals come first.
+    assert_eq!((strictly(STR, &[0x81, 0]), strictly(STR, &[0x81, 0, 0xFF])), ((3, 0, 0), (7, 0, 0)));
+}
+
+/// T-06: an item is its own bytes. A padded count is 16 whatever its elements are, and a padded element is 16 at its own
+/// place, with the entries before it.
+#[test]
+fn a_count_is_an_item_of_its_own() {
+    use oracle_driver::{strict, table::*};
+    let nodes = vec![Node { kind: U16, kids: vec![] }, Node { kind: SEQ, kids: vec![0] }];
+    let table = Table { nodes, root: 1 };
+    for elements in [&[][..], &[5], &[5, 6], &[0x80], &[0x85, 0, 0x86, 0]] {
+        let message = [&[0x82, 0], elements].concat();
+        let got = strict::read_good(&table, &message, 3);
+        assert_eq!((got.no, got.place, got.entries.len()), (16, 0, 0));
+    }
+    let got = strict::read_good(&table, &[2, 5, 0x86, 0], 3);
+    assert_eq!((got.no, got.place, &got.entries[..]), (16, 2, &[[2, 0, 0], [5, 0, 1]][..]));
+}
+
 /// A text of no bytes has its offset behind the length byte.
 #[test]
 fn empty_text() {

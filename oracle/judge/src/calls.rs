@@ -2,8 +2,8 @@
 use oracle_driver::append::{appends, Which};
 use oracle_driver::feed::{feed, ROOM};
 use oracle_driver::proto::{number, unhex, words};
-use oracle_driver::{read, table, write, Refusal, WORDS};
-use reystavem::{Accumulator, Fed, Refused, Side};
+use oracle_driver::{read, strict, table, write, ReadAnswer, Refusal, WORDS};
+use reystavem::{Accumulator, Fed, Read, ReadRefused, Refused, Side};
 use std::fmt::Debug;
 
 /// What differs, in words.
@@ -39,10 +39,21 @@ pub fn check(table: &[u8]) -> Result<(), Differs> {
 
 /// Into a store of so many words.
 pub fn read(table: &[u8], message: &[u8], words: usize) -> Result<(), Differs> {
-    let right = read::read(table, message, words);
+    reading(reystavem::read, read::read(table, message, words), table, message, words)
+}
+
+/// The same, strictly; and whether the answer is 16.
+pub fn read_strict(table: &[u8], message: &[u8], words: usize) -> (bool, Result<(), Differs>) {
+    let right = strict::read(table, message, words);
+    (right.no == 16, reading(reystavem::read_strict, right, table, message, words))
+}
+
+type Reader = for<'m> fn(&[u8], &'m [u8], &mut [u64]) -> Result<Read<'m>, ReadRefused>;
+
+fn reading(ours: Reader, right: ReadAnswer, table: &[u8], message: &[u8], words: usize) -> Result<(), Differs> {
     let before = lent(words);
     let mut store = before.clone();
-    let (ours, count, rest) = match reystavem::read(table, message, &mut store) {
+    let (ours, count, rest) = match ours(table, message, &mut store) {
         Ok(read) => ((0, message.len() - read.rest.len()), read.count, read.rest),
         Err(refused) => (numbered(refused.refused), refused.count, &[][..]),
     };
@@ -124,36 +135,32 @@ fn take_in_c(kind: u64, message: &[u8], place: usize) -> (u64, [u64; WORDS], u64
     (number, entry, behind)
 }
 
-pub fn kind_of(line: &str) -> &'static str {
-    match &line[..1] {
-        "R" => "reading",
-        "W" => "writing",
-        "A" => "append question",
-        "F" => "frames",
-        "T" => "taking",
-        _ => "unknown",
-    }
+/// One request line: what it is counted as, and whether the answers are the same. A line that can't be parsed is a
+/// difference.
+pub fn judge(line: &str) -> (&'static str, Result<(), Differs>) {
+    parsed(line).unwrap_or_else(|error| ("unknown", Err(Differs(error))))
 }
 
-/// One request line. A line that can't be parsed is a difference.
-pub fn judge(line: &str) -> Result<(), Differs> {
-    parsed(line).unwrap_or_else(|error| Err(Differs(error)))
-}
-
-fn parsed(line: &str) -> Result<Result<(), Differs>, String> {
+fn parsed(line: &str) -> Result<(&'static str, Result<(), Differs>), String> {
     let fields: Vec<&str> = line.split_ascii_whitespace().collect();
     Ok(match fields[..] {
         ["R", table, message, words] => {
             let (table, message, words) = (unhex(table)?, unhex(message)?, number(words)? as usize);
-            check(&table).and_then(|()| read(&table, &message, words))
+            ("reading", check(&table).and_then(|()| read(&table, &message, words)))
         }
-        ["W", table, list, pool, out] => write(&unhex(table)?, &words(list)?, &unhex(pool)?, number(out)? as usize),
-        ["A", old, new] => append(&unhex(old)?, &unhex(new)?),
+        ["S", table, message, words] => {
+            let (refused, outcome) = read_strict(&unhex(table)?, &unhex(message)?, number(words)? as usize);
+            (if refused { "strict reading not shortest" } else { "strict reading" }, outcome)
+        }
+        ["W", table, list, pool, out] => {
+            ("writing", write(&unhex(table)?, &words(list)?, &unhex(pool)?, number(out)? as usize))
+        }
+        ["A", old, new] => ("append question", append(&unhex(old)?, &unhex(new)?)),
         ["F", idx, array, chunk] => {
             let array = unhex(array)?.try_into().map_err(|_| "the array isn't 256 bytes")?;
-            feeding(number(idx)?, array, &unhex(chunk)?)
+            ("frames", feeding(number(idx)?, array, &unhex(chunk)?))
         }
-        ["T", kind, message, place] => take(number(kind)?, &unhex(message)?, number(place)? as usize),
+        ["T", kind, message, place] => ("taking", take(number(kind)?, &unhex(message)?, number(place)? as usize)),
         _ => return Err("unknown request".into()),
     })
 }

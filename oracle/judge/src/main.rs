@@ -1,8 +1,9 @@
 //! Holds every answer of the proved static library against the oracle: number, place, count, every
 //! word of the store, the rest, every byte of the output, the accumulator's array and message.
 //!
-//!   gen SEED COUNT | judge     request lines from stdin (PROTOCOL.md)
-//!   judge short                every message of up to two bytes, for each leaf kind and small tables
+//!   gen SEED COUNT | judge           request lines from stdin (PROTOCOL.md)
+//!   gen SEED COUNT strict | judge    strict reads alone
+//!   judge short                      every message of up to two bytes, for each leaf kind and small tables
 //!
 //! Prints how many requests of each kind were compared, and each difference; exits with 1 if there was one.
 
@@ -20,7 +21,8 @@ fn lines() -> Tally {
         if line.is_empty() || line.starts_with('#') {
             continue;
         }
-        tally.note(calls::kind_of(&line), calls::judge(&line), || line.clone());
+        let (kind, outcome) = calls::judge(&line);
+        tally.note(kind, outcome, || line.clone());
     }
     tally
 }

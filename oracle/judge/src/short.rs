@@ -1,5 +1,5 @@
 //! Every message of up to two bytes, for each leaf kind and a set of small tables, with stores from no
-//! entry to more than enough, and words over; and every taking from every place.
+//! entry to more than enough, and words over, plainly and strictly; and every taking from every place.
 use crate::{calls, Tally};
 use oracle_driver::table::Table;
 
@@ -51,8 +51,9 @@ pub fn run() -> Tally {
     for message in messages() {
         for table in &tables {
             for words in [2, 3, 7, 17] {
-                let outcome = calls::read(table, &message, words);
-                tally.note("reading", outcome, || format!("{table:02x?} {message:02x?}, {words} words"));
+                let request = || format!("{table:02x?} {message:02x?}, {words} words");
+                tally.note("reading", calls::read(table, &message, words), request);
+                tally.note("strict reading", calls::read_strict(table, &message, words).1, request);
             }
         }
         for kind in 0..=33 {

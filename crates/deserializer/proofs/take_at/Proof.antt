@@ -47,14 +47,14 @@ enum-known-got : tie.Need-enum-known-got
 enum-known-got c = search needs
 
 add-behind : tie.Need-add-behind
-add-behind c = record { fits = word _ _ (now (c .before .before .before .before .before .before .before .before .before .args .message)) (may (c .before .before .before .before .before .before)) (omega arith) (omega arith) (c .before .before .before .take .ensures) (c .before .got .given .1) }
+add-behind c = record { fits = word _ _ (now (c .before .before .before .before .before .before .before .before .before .before .args .message)) (may (c .before .before .before .before .before .before .before)) (omega arith) (omega arith) (c .before .before .before .before .take .ensures) (c .before .before .got .given .1) }
 
 enum-known-got-2 : tie.Need-enum-known-got-2
 enum-known-got-2 c = search needs
 
 returns-3 : tie.Need-returns-3
 unfolding taken
-returns-3 c = inside _ _ _ (may (c .before .before .before .before .before .before)) (omega arith) (omega arith) (c .before .before .before .take .ensures) (c .before .got .given .1)
+returns-3 c = inside _ _ _ (may (c .before .before .before .before .before .before .before)) (omega arith) (omega arith) (c .before .before .before .before .take .ensures) (c .before .before .got .given .1)
 
 returns-4 : tie.Need-returns-4
 unfolding taken

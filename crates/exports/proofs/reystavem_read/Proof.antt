@@ -1,43 +1,21 @@
--- `exports::reystavem_read` meets its contract.
+-- `exports::reystavem_read` meets its contract: the answer is told as it came.
 -- Assumes nothing.
 use borrow.Author.Needs.{needs}
-use Rattle.exports.proofs.Told.{read-done, read-refused}
+use Rattle.exports.proofs.Told.{read-told}
 use Rattle.exports.proofs.reystavem_read.Statement.{statement}
 use Rattle.exports.proofs.reystavem_read.Tie as tie
 
 read-requires : tie.Need-read-requires
 read-requires c κs = search needs
 
-enum-known-got : tie.Need-enum-known-got
-enum-known-got c = search needs
-
-enum-known-got-2 : tie.Need-enum-known-got-2
-enum-known-got-2 c = search needs
-
-refusal-requires : tie.Need-refusal-requires
-refusal-requires c κs = search needs
+tell-read-requires : tie.Need-tell-read-requires
+tell-read-requires c κs = search needs
 
 same-length : tie.Need-same-length
 same-length c = search needs
 
 returns : tie.Need-returns
-returns c = read-done (c .before .before .before .before .before .read .ensures) (c .before .got .given .1)
-
-same-length-2 : tie.Need-same-length-2
-same-length-2 c = search needs
-
-returns-2 : tie.Need-returns-2
-returns-2 c = read-refused (c .before .before .before .before .before .before .read .ensures) (c .before .before .got2 .given .1) (c .refusal .ensures)
+returns c = read-told (c .before .before .before .before .before .read .ensures) (c .tell-read .ensures)
 
 pub reystavem-read-spec : {M : Type 1} → statement M
-reystavem-read-spec =
-    tie.close
-    (tie.spec
-    read-requires
-    enum-known-got
-    enum-known-got-2
-    refusal-requires
-    same-length
-    returns
-    same-length-2
-    returns-2)
+reystavem-read-spec = tie.close (tie.spec read-requires tell-read-requires same-length returns)

@@ -2,7 +2,7 @@
 -- Assumes nothing.
 use borrow.Author.Needs.{needs}
 use Rattle.laws.proofs.Bytes.{front-lt}
-use Rattle.fixint.proofs.Numbers.{ended, took}
+use Rattle.fixint.proofs.Numbers.{ended, is-number}
 use Rattle.fixint.proofs.take.Statement.{statement}
 use Rattle.fixint.proofs.take.Tie as tie
 
@@ -17,7 +17,7 @@ with-sign-requires c κs =
     (c .before .before .before .pre, rw (c .word .ensures) (front-lt _ _ _ (λ i. c .before .before .shared-slice-known .given i .fits) (c .before .if1 .left)))
 
 returns-2 : tie.Need-returns-2
-returns-2 c = rw (c .with-sign .ensures, c .before .word .ensures) (took _ _ _ _ (c .before .before .if1 .left))
+returns-2 c = rw (c .with-sign .ensures, c .before .word .ensures) (is-number _ _ _ _ (c .before .before .if1 .left))
 
 pub take-spec : {M : Type 1} → statement M
 take-spec = tie.close (tie.spec returns word-requires with-sign-requires returns-2)

@@ -19,10 +19,10 @@ returns c = kept (λ a. c .before .before .args .place + a) refl (c .enum-told .
 
 add-offset : tie.Need-add-offset
 unfolding Within
-add-offset c = record { fits = rw (c .before .got .given .1) at (c .before .before .before .pre) }
+add-offset c = record { fits = rw (c .before .before .got .given .1) at (c .before .before .before .before .pre) }
 
 returns-2 : tie.Need-returns-2
-returns-2 c = changed (λ a. c .before .before .before .args .place + a) refl (c .before .got .given .1) refl
+returns-2 c = changed (λ a. c .before .before .before .before .args .place + a) refl (c .before .before .got .given .1) refl
 
 pub at-place-spec : {M : Type 1} → statement M
 at-place-spec = tie.close (tie.spec enum-known-got enum-told returns add-offset returns-2)

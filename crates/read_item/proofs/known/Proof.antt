@@ -16,10 +16,10 @@ returns : tie.Need-returns
 returns c = known-refused _ _ (c .enum-told .given .1)
 
 returns-2 : tie.Need-returns-2
-returns-2 c = known-good _ _ (c .before .before .got .given .1) (omega arith)
+returns-2 c = known-good _ _ (c .before .before .before .got .given .1) (omega arith)
 
 returns-3 : tie.Need-returns-3
-returns-3 c = known-not _ _ (c .before .before .got .given .1) (omega arith)
+returns-3 c = known-not _ _ (c .before .before .before .got .given .1) (omega arith)
 
 pub known-spec : {M : Type 1} → statement M
 known-spec = tie.close (tie.spec enum-known-got enum-told returns returns-2 returns-3)

@@ -1,7 +1,7 @@
 -- `reader::read` meets its contract: the room is the store's.
 -- Assumes nothing.
 use borrow.Author.Needs.{needs}
-use Rattle.wire.specs.Answers.{roomOf}
+use Rattle.wire.specs.Answers.{roomOf, reads}
 use Rattle.reader.proofs.Promised.{reads-whole}
 use Rattle.reader.proofs.read.Statement.{statement}
 use Rattle.reader.proofs.read.Tie as tie
@@ -16,8 +16,8 @@ same-length : tie.Need-same-length
 same-length c = search needs
 
 returns : tie.Need-returns
-unfolding roomOf
-returns c = reads-whole _ _ _ (rw (c .before .before .before .before .room .ensures) at (c .before .before .read-with .ensures))
+unfolding roomOf reads
+returns c = reads-whole _ _ _ _ (rw (c .before .before .before .before .room .ensures) at (c .before .before .read-with .ensures))
 
 pub read-spec : {M : Type 1} → statement M
 read-spec = tie.close (tie.spec room-requires read-with-requires same-length returns)

@@ -30,7 +30,7 @@ read-rounds-requires c κs = let good = sym (c .before .before .before .before .
     (good-table _ _ good, (omega arith, (flat-falls (good-table _ _ good) (omega arith) (c .before .flat .ensures), omega arith)))
 
 returns : tie.Need-returns
-returns c = with-bad _ _ _ _ (sym (c .before .before .before .check .ensures) ∙ c .before .checked .given .1)
+returns c = with-bad _ _ _ _ _ (sym (c .before .before .before .check .ensures) ∙ c .before .checked .given .1)
 
 same-length : tie.Need-same-length
 same-length c = search needs
@@ -38,7 +38,7 @@ same-length c = search needs
 returns-2 : tie.Need-returns-2
 returns-2 c =
     let good = sym (c .before .before .before .before .before .before .before .before .before .check .ensures) ∙ c .before .before .before .before .before .before .before .checked2 .given .1 in
-    with-good _ _ _ _ _ good (c .before .before .before .before .before .root-at .ensures) (c .before .before .before .before .flat .ensures) (c .before .before .read-rounds .ensures)
+    with-good _ _ _ _ _ _ good (c .before .before .before .before .before .root-at .ensures) (c .before .before .before .before .flat .ensures) (c .before .before .read-rounds .ensures)
 
 pub read-with-spec : {M : Type 1} → statement M
 read-with-spec =

@@ -13,11 +13,11 @@ use Rattle.utf8.proofs.char_of.Tie as tie
 
 returns : tie.Need-returns
 unfolding charOf pick both
-returns c = rw (lt-ltb 4 (c .before .before .args .count) (omega arith))
+returns c = rw (lt-ltb 4 (c .before .before .before .args .count .first) (omega arith))
 
 returns-2 : tie.Need-returns-2
 unfolding charOf pick both
-returns-2 c = let a = c .before .before .before .args in rw (le-ltb 4 (a .count) (omega arith), lt-ltb _ _ (c .if2 .taken))
+returns-2 c = let a = c .before .before .before .before .args in rw (le-ltb 4 (a .count .first) (omega arith), lt-ltb _ _ (c .if2 .taken))
 
 returns-3 : tie.Need-returns-3
 unfolding charOf pick both
@@ -36,13 +36,16 @@ returns-4 c = rw (le-ltb _ _ (c .before .before .before .before .before .if1 .le
 first-char-requires : tie.Need-first-char-requires
 first-char-requires c κs = search needs
 
-add-end : tie.Need-add-end
-add-end c = search needs
+is-shortest-requires : tie.Need-is-shortest-requires
+is-shortest-requires c κs = search needs
+
+add-used : tie.Need-add-used
+add-used c = search needs
 
 returns-5 : tie.Need-returns-5
 unfolding charOf pick both
 returns-5 c =
-    rw (le-ltb _ _ (c .before .before .before .before .before .before .if1 .left), le-ltb _ _ (c .before .before .before .before .before .if2 .left), lt-ltb _ _ (some (c .before .before .before .before .if3 .left)), sym (c .before .before .is-text .ensures) ∙ not-false _ (c .before .if4 .left), c .first-char .ensures)
+    rw (le-ltb _ _ (c .before .before .before .before .before .before .before .before .if1 .left), le-ltb _ _ (c .before .before .before .before .before .before .before .if2 .left), lt-ltb _ _ (some (c .before .before .before .before .before .before .if3 .left)), sym (c .before .before .before .before .is-text .ensures) ∙ not-false _ (c .before .before .before .if4 .left), c .before .is-shortest .ensures, c .before .before .first-char .ensures)
 
 pub char-of-spec : {M : Type 1} → statement M
 char-of-spec =
@@ -55,5 +58,6 @@ char-of-spec =
     is-text-requires
     returns-4
     first-char-requires
-    add-end
+    is-shortest-requires
+    add-used
     returns-5)

@@ -14,7 +14,7 @@ use Rattle.utf8.proofs.content_of.Tie as tie
 
 returns : tie.Need-returns
 unfolding contentOf pick
-returns c = let a = c .before .before .args in rw (lt-ltb (length (now (a .part))) (a .count) (omega arith))
+returns c = let a = c .before .before .before .args in rw (lt-ltb (length (now (a .part))) (a .count .first) (omega arith))
 
 add-end : tie.Need-add-end
 add-end c = omega arith
@@ -27,11 +27,11 @@ is-content-requires c κs = search needs
 
 returns-2 : tie.Need-returns-2
 unfolding contentOf pick
-returns-2 c = rw (le-ltb _ _ (c .before .before .before .if1 .left), sym (c .before .is-content .ensures) ∙ not-true _ (c .if2 .taken))
+returns-2 c = rw (le-ltb _ _ (c .before .before .before .before .if1 .left), sym (c .before .is-content .ensures) ∙ not-true _ (c .if2 .taken))
 
 returns-3 : tie.Need-returns-3
 unfolding contentOf pick
-returns-3 c = rw (le-ltb _ _ (c .before .before .before .if1 .left), sym (c .before .is-content .ensures) ∙ not-false _ (c .if2 .left), zero-add)
+returns-3 c = rw (le-ltb _ _ (c .before .before .before .before .if1 .left), sym (c .before .is-content .ensures) ∙ not-false _ (c .if2 .left), zero-add)
 
 pub content-of-spec : {M : Type 1} → statement M
 content-of-spec =

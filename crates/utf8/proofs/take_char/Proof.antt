@@ -24,7 +24,7 @@ enum-told c = search needs
 returns : tie.Need-returns
 unfolding readPlain
 returns c =
-    let a = c .before .before .before .before .args in no-count (λ k n. charOf k n (drop n (now (a .part)))) (as-u64 _ (c .before .before .take .ensures)) (c .enum-told .given .1)
+    let a = c .before .before .before .before .args in no-count (λ k. charOf k (drop (k .used) (now (a .part)))) (as-u64 _ (c .before .before .take .ensures)) (c .enum-told .given .1)
 
 sub-char-of : tie.Need-sub-char-of
 sub-char-of c = within _ (c .before .before .before .take .ensures) (c .before .got .given .1)
@@ -42,7 +42,7 @@ returns-2 : tie.Need-returns-2
 unfolding readPlain
 returns-2 c =
     let a = c .before .before .before .before .before .before .before .args in
-    rw tail at (c .char-of .ensures) ∙ behind-count (λ k n. charOf k n (drop n (now (a .part)))) (as-u64 _ (c .before .before .before .before .before .take .ensures)) (c .before .before .before .got .given .1)
+    rw tail at (c .char-of .ensures) ∙ behind-count (λ k. charOf k (drop (k .used) (now (a .part)))) (as-u64 _ (c .before .before .before .before .before .take .ensures)) (c .before .before .before .got .given .1)
 
 pub take-char-spec : {M : Type 1} → statement M
 take-char-spec =

@@ -25,7 +25,7 @@ enum-told c = search needs
 returns : tie.Need-returns
 unfolding head
 returns c =
-    let a = c .before .before .before .before .args in no-count (λ k n. contentOf (contentIf (a .text)) 0 k n (drop n (now (a .part)))) (as-u64 _ (c .before .before .take .ensures)) (c .enum-told .given .1)
+    let a = c .before .before .before .before .args in no-count (λ k. contentOf (contentIf (a .text)) 0 k (drop (k .used) (now (a .part)))) (as-u64 _ (c .before .before .take .ensures)) (c .enum-told .given .1)
 
 sub-content-of : tie.Need-sub-content-of
 sub-content-of c = within _ (c .before .before .before .take .ensures) (c .before .got .given .1)
@@ -43,7 +43,7 @@ returns-2 : tie.Need-returns-2
 unfolding head
 returns-2 c =
     let a = c .before .before .before .before .before .before .before .args in
-    rw tail at (c .content-of .ensures) ∙ behind-count (λ k n. contentOf (contentIf (a .text)) 0 k n (drop n (now (a .part)))) (as-u64 _ (c .before .before .before .before .before .take .ensures)) (c .before .before .before .got .given .1)
+    rw tail at (c .content-of .ensures) ∙ behind-count (λ k. contentOf (contentIf (a .text)) 0 k (drop (k .used) (now (a .part)))) (as-u64 _ (c .before .before .before .before .before .take .ensures)) (c .before .before .before .got .given .1)
 
 pub take-content-spec : {M : Type 1} → statement M
 take-content-spec =

@@ -7,6 +7,7 @@ use lib.Dec.{lit<}
 use lib.ListN.{length}
 use borrow.Author.Needs.{needs}
 use Rattle.varint.proofs.Reading.{Reading, refused, start, at-end, last-good, last-bad, short, again, fits-last, fits-more, fits-scale, part}
+use Rattle.varint.proofs.Last.{by-last}
 use Rattle.varint.proofs.take.Statement.{statement}
 use Rattle.varint.proofs.take.Tie as tie
 
@@ -42,9 +43,13 @@ add-whole : tie.Need-add-whole Inv-loop μ-loop
 add-whole c =
     let r = c .before .before .before .before .loop .inv in omega (arith, fits-last r (c .before .if2 .taken) (c .if3 .taken))
 
+is-shortest-requires : tie.Need-is-shortest-requires Inv-loop μ-loop
+is-shortest-requires c κs = search needs
+
 returns-2 : tie.Need-returns-2 Inv-loop μ-loop
 returns-2 c =
-    let r = c .before .before .before .before .loop .inv in last-good r (c .before .before .before .loop-test .taken) (c .before .if2 .taken) (c .if3 .taken)
+    let r = c .before .before .before .before .before .loop .inv in
+    by-last _ _ _ _ _ _ (last-good r (c .before .before .before .before .loop-test .taken) (c .before .before .if2 .taken) (c .before .if3 .taken)) (c .is-shortest .ensures)
 
 returns-3 : tie.Need-returns-3 Inv-loop μ-loop
 returns-3 c =
@@ -57,9 +62,13 @@ mul-sum c =
 add-sum : tie.Need-add-sum Inv-loop μ-loop
 add-sum c = let r = c .before .before .before .loop .inv in record { fits = fits-more r (c .if2 .left) (mod-lt _ (lit< tt)) }
 
+is-shortest-requires-2 : tie.Need-is-shortest-requires-2 Inv-loop μ-loop
+is-shortest-requires-2 c κs = search needs
+
 returns-4 : tie.Need-returns-4 Inv-loop μ-loop
 returns-4 c =
-    let r = c .before .before .before .before .loop .inv in short r (c .before .before .before .loop-test .taken) (c .before .if2 .left) (c .if4 .taken)
+    let r = c .before .before .before .before .before .loop .inv in
+    by-last _ _ _ _ _ _ (short r (c .before .before .before .before .loop-test .taken) (c .before .before .if2 .left) (c .before .if4 .taken)) (c .is-shortest2 .ensures)
 
 mul-scale : tie.Need-mul-scale Inv-loop μ-loop
 mul-scale c = let r = c .before .before .before .before .loop .inv in omega (arith, fits-scale r (c .before .if2 .left))
@@ -88,10 +97,12 @@ take-spec =
     add-next
     mul-whole
     add-whole
+    is-shortest-requires
     returns-2
     returns-3
     mul-sum
     add-sum
+    is-shortest-requires-2
     returns-4
     mul-scale
     loop-less

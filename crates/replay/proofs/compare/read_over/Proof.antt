@@ -19,14 +19,14 @@ part-requires c κs = search needs
 part-requires-2 : tie.Need-part-requires-2
 part-requires-2 c κs = search needs
 
-slice-relend-prefix-read : tie.Need-slice-relend-prefix-read
-slice-relend-prefix-read c = search needs
+slice-relend-prefix-read-by : tie.Need-slice-relend-prefix-read-by
+slice-relend-prefix-read-by c = search needs
 
-slice-aggregate-read : tie.Need-slice-aggregate-read
-slice-aggregate-read c = sym (length-take-le _ _ (omega arith))
+slice-aggregate-read-by : tie.Need-slice-aggregate-read-by
+slice-aggregate-read-by c = sym (length-take-le _ _ (omega arith))
 
-read-requires : tie.Need-read-requires
-read-requires c κs = search needs
+read-by-requires : tie.Need-read-by-requires
+read-by-requires c κs = search needs
 
 read-told-requires : tie.Need-read-told-requires
 read-told-requires c κs = search needs
@@ -84,9 +84,9 @@ read-over-spec =
     returns
     part-requires
     part-requires-2
-    slice-relend-prefix-read
-    slice-aggregate-read
-    read-requires
+    slice-relend-prefix-read-by
+    slice-aggregate-read-by
+    read-by-requires
     read-told-requires
     tells-requires
     same-length

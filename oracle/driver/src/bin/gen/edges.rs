@@ -9,12 +9,16 @@ use oracle_driver::WORDS;
 
 impl Gen {
     pub fn edges(&mut self) -> Go {
-        self.leaves_at_the_edge()?;
-        self.nests_at_the_edge()?;
+        self.readings_at_the_edge()?;
         self.writes_at_the_edge()?;
         self.tables_at_the_edge()?;
         self.appends_at_the_edge()?;
         self.feeds_at_the_edge()
+    }
+
+    pub fn readings_at_the_edge(&mut self) -> Go {
+        self.leaves_at_the_edge()?;
+        self.nests_at_the_edge()
     }
 
     fn leaves_at_the_edge(&mut self) -> Go {

@@ -135,6 +135,15 @@ pub fn odd_varints(Width(most, last): Width) -> Vec<Vec<u8>> {
     list
 }
 
+/// A varint of the same value and so many bytes.
+pub fn padded_to(mut varint: Vec<u8>, len: usize) -> Vec<u8> {
+    while varint.len() < len {
+        *varint.last_mut().expect("a varint has a byte") |= 0x80;
+        varint.push(0);
+    }
+    varint
+}
+
 /// Writes overlong varints and odd chars now and then, and past the width sometimes.
 pub struct Odd<'r> {
     pub rng: &'r mut Rng,
@@ -143,14 +152,11 @@ pub struct Odd<'r> {
 
 impl Style for Odd<'_> {
     fn varint(&mut self, Width(most, _): Width, value: u64) -> Vec<u8> {
-        let mut v = shortest(value);
+        let v = shortest(value);
         if self.rng.chance(2) {
             let most = if self.past && self.rng.chance(4) { most + 1 } else { most };
             let len = self.rng.from_to(v.len(), most.max(v.len()));
-            while v.len() < len {
-                *v.last_mut().unwrap() |= 0x80;
-                v.push(0);
-            }
+            return padded_to(v, len);
         }
         v
     }

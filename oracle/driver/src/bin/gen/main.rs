@@ -1,8 +1,10 @@
 //! `gen SEED COUNT` prints COUNT request lines for `oracle` (PROTOCOL.md), always the same
 //! ones for the same seed: first a fixed part of edge cases, then random rounds.
+//! `gen SEED COUNT strict` prints strict reads alone; more than a third of them meet a padded varint and are 16.
 
 mod edges;
 mod forms;
+mod padded;
 mod rounds;
 mod tables;
 
@@ -12,12 +14,17 @@ use oracle_driver::WORDS;
 use std::io::{self, BufWriter, Write};
 
 fn main() {
-    let mut args = std::env::args().skip(1).map(|a| a.parse::<u64>().expect("gen SEED COUNT, both decimal"));
-    let (Some(seed), Some(count)) = (args.next(), args.next()) else {
-        eprintln!("usage: gen SEED COUNT");
-        std::process::exit(2)
+    let args: Vec<String> = std::env::args().skip(1).collect();
+    let (seed, count, strict) = match &args[..] {
+        [seed, count] => (seed, count, false),
+        [seed, count, how] if how == "strict" => (seed, count, true),
+        _ => {
+            eprintln!("usage: gen SEED COUNT [strict]");
+            std::process::exit(2)
+        }
     };
-    let mut g = Gen { rng: Rng(0), left: count, out: BufWriter::new(io::stdout().lock()) };
+    let [seed, count] = [seed, count].map(|a| a.parse::<u64>().expect("SEED and COUNT, both decimal"));
+    let mut g = Gen { rng: Rng(0), left: count, strict, out: BufWriter::new(io::stdout().lock()) };
     // Err means: enough lines, or nobody listens any more.
     let _ = g.all(seed);
     let _ = g.out.flush();
@@ -30,21 +37,27 @@ type Go = Result<(), Enough>;
 struct Gen {
     rng: Rng,
     left: u64,
+    /// Every read is a strict one, and nothing else is asked.
+    strict: bool,
     out: BufWriter<io::StdoutLock<'static>>,
 }
 
 impl Gen {
-    fn line(&mut self, text: std::fmt::Arguments) -> Go {
+    fn line(&mut self, letter: char, fields: std::fmt::Arguments) -> Go {
         if self.left == 0 {
             return Err(Enough);
         }
+        if self.strict && letter != 'S' {
+            return Ok(());
+        }
         self.left -= 1;
-        writeln!(self.out, "{text}").map_err(|_| Enough)
+        writeln!(self.out, "{letter} {fields}").map_err(|_| Enough)
     }
     /// Into a store with room for so many entries, and up to two words more.
     fn read(&mut self, file: &[u8], message: &[u8], room: u64) -> Go {
         let words = WORDS as u64 * room + self.rng.below(WORDS) as u64;
-        self.line(format_args!("R {} {} {words:x}", hex(file), hex(message)))
+        let letter = if self.strict { 'S' } else { 'R' };
+        self.line(letter, format_args!("{} {} {words:x}", hex(file), hex(message)))
     }
     /// A list of items' two words each; the third may be anything.
     fn write_list(&mut self, file: &[u8], items: &[[u64; 2]], pool: &[u8], out_len: usize) -> Go {
@@ -52,16 +65,16 @@ impl Gen {
         self.write(file, &words, pool, out_len)
     }
     fn write(&mut self, file: &[u8], words: &[u64], pool: &[u8], out_len: usize) -> Go {
-        self.line(format_args!("W {} {} {} {out_len:x}", hex(file), words_text(words), hex(pool)))
+        self.line('W', format_args!("{} {} {} {out_len:x}", hex(file), words_text(words), hex(pool)))
     }
     fn append(&mut self, old: &[u8], new: &[u8]) -> Go {
-        self.line(format_args!("A {} {}", hex(old), hex(new)))
+        self.line('A', format_args!("{} {}", hex(old), hex(new)))
     }
     fn feed(&mut self, idx: u64, array: &[u8], chunk: &[u8]) -> Go {
-        self.line(format_args!("F {idx:x} {} {}", hex(array), hex(chunk)))
+        self.line('F', format_args!("{idx:x} {} {}", hex(array), hex(chunk)))
     }
     fn take(&mut self, kind: u8, message: &[u8], place: u64) -> Go {
-        self.line(format_args!("T {kind:x} {} {place:x}", hex(message)))
+        self.line('T', format_args!("{kind:x} {} {place:x}", hex(message)))
     }
 
     /// The words of entries that say of their items whatever place.
@@ -79,10 +92,19 @@ impl Gen {
 
     /// The edge cases are the same for every seed.
     fn all(&mut self, seed: u64) -> Go {
-        self.edges()?;
+        if self.strict {
+            self.readings_at_the_edge()?;
+            self.paddings_at_the_edge()?;
+        } else {
+            self.edges()?;
+        }
         self.rng = Rng(seed);
         loop {
-            self.round()?;
+            if self.strict {
+                self.strict_round()?;
+            } else {
+                self.round()?;
+            }
         }
     }
 }

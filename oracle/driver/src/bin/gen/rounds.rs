@@ -2,16 +2,25 @@
 
 use crate::forms::Odd;
 use crate::tables::{fewest, leaf, LEAVES};
-use crate::{Gen, Go};
+use crate::{Enough, Gen, Go};
 use oracle_driver::model::{self, encode_char, shortest};
 use oracle_driver::table::*;
 use oracle_driver::{write, Entry, WORDS};
+
+/// A value of a table, and its wire form.
+pub struct Sample {
+    pub entries: Vec<Entry>,
+    pub pool: Vec<u8>,
+    pub message: Vec<u8>,
+}
 
 impl Gen {
     pub fn round(&mut self) -> Go {
         let t = self.table();
         let file = self.file(&t);
-        self.reads(&t, &file)?;
+        if let Some(Sample { entries, pool, message }) = self.reads(&t, &file)? {
+            self.writes(&file, &entries, &pool, message.len())?;
+        }
         self.bad_tables(&file)?;
         for _ in 0..6 {
             self.appends(&t, &file)?;
@@ -29,7 +38,7 @@ impl Gen {
         Ok(())
     }
 
-    fn table(&mut self) -> Table {
+    pub fn table(&mut self) -> Table {
         let most = *self.rng.pick(&[1, 2, 3, 4, 6, 8, 12, 20, 60, 256]);
         let n = self.rng.from_to(1, most);
         let mut nodes: Vec<Node> = vec![];
@@ -76,7 +85,7 @@ impl Gen {
     }
 
     /// A file of the table with a note and junk in the list, at random.
-    fn file(&mut self, t: &Table) -> Vec<u8> {
+    pub fn file(&mut self, t: &Table) -> Vec<u8> {
         let mut list = vec![];
         if self.rng.chance(4) {
             list = (0..self.rng.below(5)).map(|_| self.rng.word() as u16 % 300).collect();
@@ -86,7 +95,7 @@ impl Gen {
         t.file_with(&list, &note)
     }
 
-    fn odd_byte(&mut self) -> u8 {
+    pub fn odd_byte(&mut self) -> u8 {
         if self.rng.chance(3) {
             self.rng.byte()
         } else {
@@ -189,7 +198,8 @@ impl Gen {
         }
     }
 
-    fn reads(&mut self, t: &Table, file: &[u8]) -> Go {
+    /// Reads of odd bytes, and of what becomes of a value's wire form. None if the table has too large values only.
+    pub fn reads(&mut self, t: &Table, file: &[u8]) -> Result<Option<Sample>, Enough> {
         for _ in 0..8 {
             let len = self.rng.below(24);
             let m = self.odd_bytes(len);
@@ -198,12 +208,12 @@ impl Gen {
         }
         let min = fewest(t);
         if min[t.root] > 300 {
-            return Ok(());
+            return Ok(None);
         }
         let (mut entries, mut pool) = (vec![], self.odd_bytes(2));
         self.value(t, &min, t.root, &mut entries, &mut pool);
         if entries.len() > 700 {
-            return Ok(());
+            return Ok(None);
         }
         let message = write::write_good(t, &entries, &pool, 1 << 16).expect("a value of our own fits");
         let count = entries.len() as u64;
@@ -239,7 +249,7 @@ impl Gen {
             let cut = [&message[..p], &message[p + 1..]].concat();
             self.read(file, &cut, count + 2)?;
         }
-        self.writes(file, &entries, &pool, message.len())
+        Ok(Some(Sample { entries, pool, message }))
     }
 
     fn writes(&mut self, file: &[u8], entries: &[Entry], pool: &[u8], size: usize) -> Go {
@@ -311,7 +321,7 @@ impl Gen {
         self.write(file, &words, &broken, out)
     }
 
-    fn bad_tables(&mut self, file: &[u8]) -> Go {
+    pub fn bad_tables(&mut self, file: &[u8]) -> Go {
         for _ in 0..8 {
             let mut f = file.to_vec();
             let n = f.len();

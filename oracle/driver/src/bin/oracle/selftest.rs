@@ -2,7 +2,7 @@
 
 use oracle_driver::rng::Rng;
 use oracle_driver::table::{Table, CHAR};
-use oracle_driver::{feed, model, read, WORDS};
+use oracle_driver::{feed, model, read, strict, WORDS};
 use postcard::accumulator::{CobsAccumulator, FeedResult};
 
 pub fn run() -> bool {
@@ -31,6 +31,12 @@ pub fn run() -> bool {
     }
     report("UTF-8 by 01's table against core", tried, bad);
 
+    // Plainly and strictly; the number of answers that differ.
+    let both = |file: &[u8], m: &[u8]| {
+        u64::from(read::read(file, m, WORDS) != model::read(file, m, WORDS))
+            + u64::from(strict::read(file, m, WORDS) != model::read_strict(file, m, WORDS))
+    };
+
     // char: lengths around the four that are allowed, with every body of up to two bytes.
     let char_file = Table::leaf(CHAR).file();
     let (mut tried, mut bad) = (0, 0);
@@ -39,11 +45,11 @@ pub fn run() -> bool {
             for x in 0..1u32 << (8 * have) {
                 let m = [&[len][..], &x.to_be_bytes()[4 - have as usize..]].concat();
                 tried += 1;
-                bad += u64::from(read::read(&char_file, &m, WORDS) != model::read(&char_file, &m, WORDS));
+                bad += both(&char_file, &m);
             }
         }
     }
-    report("char, length 0 to 6, body 0 to 2 bytes", tried, bad);
+    report("char, length 0 to 6, body 0 to 2 bytes, plainly and strictly", tried, bad);
 
     // For every leaf kind, every message of up to two bytes, and of three with some third bytes.
     let (mut tried, mut bad) = (0, 0);
@@ -56,11 +62,11 @@ pub fn run() -> bool {
                     continue;
                 }
                 tried += 1;
-                bad += u64::from(read::read(&file, m, WORDS) != model::read(&file, m, WORDS));
+                bad += both(&file, m);
             }
         }
     }
-    report("every leaf kind, short messages", tried, bad);
+    report("every leaf kind, short messages, plainly and strictly", tried, bad);
 
     // Accumulator: 01's step table against the crate where no decoding happens (20, 21, and
     // the rest of 22/23), from states the crate can reach.

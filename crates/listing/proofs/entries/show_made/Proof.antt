@@ -1,10 +1,10 @@
--- `listing::entries::show` is safe: a table that passes the check is good.
+-- `listing::entries::show_made` is safe: a table that passes the check is good.
 -- Assumes nothing.
 use mathlib.Core.Path.{sym, _∙_}
 use Rattle.laws.proofs.Tables.{good-table}
 use borrow.Author.Needs.{needs}
-use Rattle.listing.proofs.entries.show.Statement.{statement}
-use Rattle.listing.proofs.entries.show.Tie as tie
+use Rattle.listing.proofs.entries.show_made.Statement.{statement}
+use Rattle.listing.proofs.entries.show_made.Tie as tie
 
 check-requires : tie.Need-check-requires
 check-requires c κs = search needs
@@ -18,11 +18,8 @@ say-bad-requires c κs = search needs
 enum-known-layout : tie.Need-enum-known-layout
 enum-known-layout c = search needs
 
-made-by-requires : tie.Need-made-by-requires
-made-by-requires c κs = search needs
-
 show-entries-requires : tie.Need-show-entries-requires
-show-entries-requires c κs = good-table _ _ (sym (c .before .before .before .before .check .ensures) ∙ c .before .before .layout .given .1)
+show-entries-requires c κs = good-table _ _ (sym (c .before .before .before .check .ensures) ∙ c .before .layout .given .1)
 
 show-end-requires : tie.Need-show-end-requires
 show-end-requires c κs = search needs
@@ -33,15 +30,14 @@ returns c = search needs
 returns-2 : tie.Need-returns-2
 returns-2 c = search needs
 
-pub show-spec : {M : Type 1} → statement M
-show-spec =
+pub show-made-spec : {M : Type 1} → statement M
+show-made-spec =
     tie.close
     (tie.spec
     check-requires
     enum-known-why
     say-bad-requires
     enum-known-layout
-    made-by-requires
     show-entries-requires
     show-end-requires
     returns

@@ -18,3 +18,5 @@ pub mod Skim
 pub mod Flags
 pub mod Strict
 pub mod StrictOnly
+pub mod RunsAgain
+pub mod ByteForByte

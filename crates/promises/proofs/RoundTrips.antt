@@ -23,13 +23,13 @@ use Rattle.promises.proofs.WrittenReads.{WrittenReads, written-reads}
 -- ---- read back
 
 -- a form was written: it is what stands in front
-record Formed (f : Form) (n : ℕ) (out : List ℕ) : Type 0 where
-  bytes : List ℕ
-  is : f ≡ form bytes
-  long : n ≡ length bytes
-  front : take n out ≡ bytes
+pub record Formed (f : Form) (n : ℕ) (out : List ℕ) : Type 0 where
+  pub bytes : List ℕ
+  pub is : f ≡ form bytes
+  pub long : n ≡ length bytes
+  pub front : take n out ≡ bytes
 
-formed : (f : Form) {n : ℕ} {before out : List ℕ} → Writes f before (Written n) out → Formed f n out
+pub formed : (f : Form) {n : ℕ} {before out : List ℕ} → Writes f before (Written n) out → Formed f n out
 unfolding writeAnswer outWith
 formed (form s) {n} {before} w =
     let long : n ≡ length s = cc (w .answered) in

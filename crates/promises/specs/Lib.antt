@@ -1,10 +1,11 @@
--- What the demands promise of the public answers: of a new table beside an old one, of the entries' places, of what is written and read back, of the rest, of a skim, and of a strict reading.
+-- What the demands promise of the public answers: of a new table beside an old one, of the entries' places, of what is written and read back and when it comes back byte for byte, of the rest, of a skim, and of a strict reading.
 pub mod OldNew
 pub mod Places
 pub mod RoundTrip
 pub mod Rest
 pub mod Skim
 pub mod Strict
+pub mod ByteForByte
 -- Laws that these are proved by, which are no promises.
 pub mod Shapes
 pub mod Telling

@@ -27,14 +27,14 @@ use Rattle.wire.specs.Answers.{reads, readsStrict}
 use Rattle.laws.specs.Range.{AreBytes}
 use Rattle.promises.specs.OldNew.{OldReads}
 
--- ---- the shortest form of an item, by its kind and the bytes that it stands in front of
+-- ---- the shortest form of an item, by its kind and the bytes from its first one on
 
 -- A varint, as it was read, has as many bytes as the shortest one of its number.
 unfoldable pub isLeast : Item → Bool
 isLeast (Took own) = eqb (own .used) (length (shortest (own .first)))
 isLeast (Refused why) = true
 
--- A char's length, as it was read in front of the bytes s, is its first char's own.
+-- A char's length, as it was read at the front of s, is its first char's own.
 unfoldable pub isOneChar : List ℕ → Item → Bool
 isOneChar s (Took count) = eqb (count .first) (length (charBytes (firstChar (take (count .first) (drop (count .used) s)))))
 isOneChar s (Refused why) = true
@@ -50,7 +50,7 @@ isShortestPlain unit s = true
 isShortestPlain (int sign width) s = isLeast (varint width s)
 isShortestPlain (fixed order sign width) s = true
 
--- Its varint was the shortest, and a char's length its own; what has no varint has one form only.
+-- Its varint was the shortest, and a char's length its own; an item without a varint has one form only.
 unfoldable pub isShortest : Kind → List ℕ → Bool
 isShortest (plain leaf) s = isShortestPlain leaf s
 isShortest (pooled content) s = isLeast (varint w64 s)

@@ -11,6 +11,7 @@
  *    6  a char isn't one                         12  the output is too short
  *   16  not shortest: an item's bytes aren't the ones that a writer writes for its value
  *   20 to 24, a feed's answers: consumed, over-full, bad frame, frame, bad state
+ *   25  the work area is too short
  *
  * A pointer with its length is a lent slice: it must be valid for that length and, where it isn't
  * const, overlap no other. A length may be 0; the pointer is then not read, but mustn't be null.
@@ -25,7 +26,8 @@
 extern "C" {
 #endif
 
-/* Whether a table is good: 0, 1 or 2. *place: the first bad node, else 0. */
+/* Whether a table, of either form, is good: 0, 1 or 2. *place: the first bad node, else 0. A node is
+ * bad if its record isn't good or its chain of children has more than 256 nodes, itself among them. */
 uint64_t reystavem_check(const uint8_t *table, size_t table_len, uint64_t *place);
 
 /* Reads a message into a store of u64 words, three an entry: an item's value in two words, and the
@@ -55,10 +57,17 @@ uint64_t reystavem_write(const uint8_t *table, size_t table_len,
                          const uint8_t *pool, size_t pool_len,
                          uint8_t *out, size_t out_len, uint64_t *place);
 
-/* Whether a new table only appends to an old one. *yes: 1 or 0, 0 on a refusal. *which: the table
- * that is refused, 0 old, 1 new. *place: its first bad node, else 0. */
+/* The bytes of work area that the append question needs: a bit for each pair of nodes. */
+#define REYSTAVEM_AREA 2097152
+
+/* Whether a new table only appends to an old one; each may be of either form. *yes: 1 or 0, 0 on a
+ * refusal. *which: the table that is refused, 0 old, 1 new. *place: its first bad node, else 0. The
+ * area may hold anything, and its first REYSTAVEM_AREA bytes are zero afterwards, also when a table
+ * is refused; later bytes are as before. A shorter area: 25, which comes before all else, names no
+ * table (all three numbers are 0) and leaves the area as it was. */
 uint64_t reystavem_append(const uint8_t *old_table, size_t old_len,
                           const uint8_t *new_table, size_t new_len,
+                          uint8_t *area, size_t area_len,
                           uint64_t *place, uint64_t *which, uint64_t *yes);
 
 /* Feeds a chunk to an accumulator: its array of 256 bytes and how much of that is filled. The message

@@ -52,6 +52,8 @@ mod ffi {
             old_len: usize,
             new_table: *const u8,
             new_len: usize,
+            area: *mut u8,
+            area_len: usize,
             place: *mut u64,
             which: *mut u64,
             yes: *mut u64,
@@ -85,7 +87,7 @@ mod ffi {
 pub enum Why {
     /// The table's trailer isn't good.
     Trailer = 1,
-    /// A record of the table isn't good.
+    /// A record of the table isn't good, or its node's chain of children has more than 256 nodes.
     Record = 2,
     /// The message ends inside an item.
     End = 3,
@@ -109,6 +111,8 @@ pub enum Why {
     Full = 12,
     /// An item's bytes aren't the ones that a writer writes for its value; strict reading only.
     NotShortest = 16,
+    /// The work area is shorter than `AREA`.
+    Area = 25,
 }
 
 impl Why {
@@ -127,6 +131,7 @@ impl Why {
             11 => Why::Values,
             12 => Why::Full,
             16 => Why::NotShortest,
+            25 => Why::Area,
             _ => unreachable!("the library's contract has no other number"),
         }
     }
@@ -279,26 +284,37 @@ pub enum Side {
     New,
 }
 
-/// Whether the new table only appends variants to enums and fields to the root struct of the old one.
-pub fn appends(old: &[u8], new: &[u8]) -> Result<bool, (Side, Refused)> {
+/// The bytes of work area that the append question needs: a bit for each pair of nodes.
+pub const AREA: usize = 2_097_152;
+
+/// Whether the new table only appends variants to enums and fields to the root struct of the old one. Each may be of
+/// either form.
+///
+/// The area may hold anything, and its first `AREA` bytes are zero afterwards, also when a table is refused; later bytes
+/// stay as they were. A shorter one is refused before all else, unchanged, and that names no table.
+pub fn appends(old: &[u8], new: &[u8], area: &mut [u8]) -> Result<bool, (Option<Side>, Refused)> {
     let (mut place, mut which, mut yes) = (0, 0, 0);
-    // SAFETY: each slice is lent with its own length.
+    // SAFETY: each slice is lent with its own length; `area` is borrowed for us alone.
     let number = unsafe {
         ffi::reystavem_append(
             old.as_ptr(),
             old.len(),
             new.as_ptr(),
             new.len(),
+            area.as_mut_ptr(),
+            area.len(),
             &mut place,
             &mut which,
             &mut yes,
         )
     };
-    match (number, which) {
-        (0, _) => Ok(yes == 1),
-        (_, 0) => Err((Side::Old, refused(number, place))),
-        (_, _) => Err((Side::New, refused(number, place))),
-    }
+    let side = match (number, which) {
+        (0, _) => return Ok(yes == 1),
+        (25, _) => None,
+        (_, 0) => Some(Side::Old),
+        (_, _) => Some(Side::New),
+    };
+    Err((side, refused(number, place)))
 }
 
 /// How many bytes a frame may have, its closing zero among them.

@@ -132,11 +132,46 @@ fn what_was_written_is_read_back() {
 fn a_field_in_front_is_no_and_at_the_end_yes() {
     let in_front = four_fields([0, 0, 0, 0, 1, 0, 2, 0]);
     let at_end = four_fields([0, 0, 1, 0, 2, 0, 0, 0]);
-    assert_eq!(appends(TABLE_T, &in_front), Ok(false));
-    assert_eq!(appends(TABLE_T, &at_end), Ok(true));
     let record = Refused { why: Why::Record, place: 0 };
-    assert_eq!(appends(TABLE_T, &leaf(32)), Err((Side::New, record)));
-    assert_eq!(appends(&leaf(32), &[]), Err((Side::Old, record)));
+    for (old, new, answer) in [
+        (TABLE_T, &in_front[..], Ok(false)),
+        (TABLE_T, &at_end, Ok(true)),
+        (TABLE_T, &leaf(32), Err((Some(Side::New), record))),
+        (&leaf(32), &[], Err((Some(Side::Old), record))),
+    ] {
+        // Whatever the area holds, and all zero afterwards, but for what is beyond.
+        let mut area = vec![0xff; AREA + 3];
+        assert_eq!(appends(old, new, &mut area), answer);
+        assert!(area[..AREA].iter().all(|byte| *byte == 0));
+        assert_eq!(area[AREA..], [0xff; 3]);
+    }
+}
+
+#[test]
+fn a_short_area_is_refused_before_the_tables() {
+    let mut area = vec![7; AREA - 1];
+    let short = Refused { why: Why::Area, place: 0 };
+    for table in [TABLE_T, &[]] {
+        assert_eq!(appends(table, &[], &mut area), Err((None, short)));
+        assert_eq!(appends(table, table, &mut []), Err((None, short)));
+    }
+    assert!(area.iter().all(|byte| *byte == 7));
+}
+
+#[test]
+fn a_table_of_the_second_form_stands_beside_one_of_the_first() {
+    let second = [&TABLE_T[..30], &[6, 0, 0, 0, 30, 0, 0, 0, 4, 0, 3, 0, 0x57, 0x50]].concat();
+    assert_eq!(check(&second), Ok(()));
+    let mut store = [0; 12];
+    assert_eq!(read(&second, &[0xac, 0x02, 0x05, 0x03], &mut store).unwrap().count, 4);
+    let mut area = vec![0; AREA];
+    for (old, new) in [(TABLE_T, &second[..]), (&second, TABLE_T), (&second, &second)] {
+        assert_eq!(appends(old, new, &mut area), Ok(true));
+    }
+    // The other form's mark.
+    let mut marked = second.clone();
+    marked[42] = 0x53;
+    assert_eq!(check(&marked), Err(Refused { why: Why::Trailer, place: 0 }));
 }
 
 #[test]

@@ -18,8 +18,14 @@ fn say_signed(text: &[u8], word: u64) {
     say_number(readable::size(word));
 }
 
+// A work area for the append question.
+fn work_area() -> [u8; append::AREA] {
+    [0; append::AREA]
+}
+
 fn say_question(old: &[u8], new: &[u8]) {
-    match append::appends(old, new) {
+    let mut area = work_area();
+    match append::appends(old, new, &mut area) {
         AskAnswer::Says { yes } => {
             if yes {
                 say(b"yes, it only appends.\n");
@@ -32,6 +38,7 @@ fn say_question(old: &[u8], new: &[u8]) {
             why: _,
             place: _,
         } => say(b"a table is not good.\n"),
+        AskAnswer::ShortArea => say(b"the work area is too short.\n"),
     }
 }
 

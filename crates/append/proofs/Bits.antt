@@ -9,10 +9,12 @@ use native.Mathlib.Nat.{one-mul, zero-div, add-mul-div-left, add-div-right}
 use native.Mathlib.Omega.{arith}
 use lib.Dec.{eqb}
 use lib.Pow.{pow-pos, pow-add, shl-exact, shr-shr}
-use lib.ListN.{length, getD, set, replicate, getD-replicate}
+use lib.ListN.{length, getD, set}
 use lib.Seq.{getD-set-same, getD-set-other}
 use borrow.Author.Tests.{eqb-false}
 use Rattle.wire.specs.Tests.{pick}
+use Rattle.wire.specs.Answers.{zeroed}
+use Rattle.laws.proofs.Areas.{zeroed-at}
 use Rattle.laws.proofs.Splits.{by-lt, by-eq, not-both, of-pick}
 use Rattle.append.specs.Area.{marked, marking}
 
@@ -96,7 +98,7 @@ module _ (a : List ℕ) (k : ℕ) where
   unfolding marking marked pick
   mark-again z = rw (bit-set (getD a (k / 8) 0 / 2 ^ (k % 8)) z)
 
--- an area of zeros has no bit set
-pub none-marked : {X : Type 0} (n k : ℕ) → k / 8 < n → marked (replicate n 0) k ≡ true → X
+-- no bit is set where the area has zeros in front
+pub none-marked : {X : Type 0} (n k : ℕ) (a : List ℕ) → k / 8 < n → marked (zeroed n a) k ≡ true → X
 unfolding marked
-none-marked n k h e = not-both e (rw (getD-replicate {A = ℕ} n (k / 8) 0 0 h, zero-div (2 ^ (k % 8))))
+none-marked n k a h e = not-both e (rw (zeroed-at n a (k / 8) h, zero-div (2 ^ (k % 8))))

@@ -1,3 +1,4 @@
+pub mod Lent
 pub mod Bits
 pub mod Matching
 pub mod Promise

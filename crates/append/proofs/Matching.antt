@@ -4,23 +4,25 @@ use mathlib.Core.Path.{_≡_, refl, ap₂, _∙_, sym}
 use mathlib.Core.Bool.{Bool, true, false}
 use mathlib.Core.List.{List}
 use mathlib.Core.Logic.{⊎-elim}
-use Prim.Native.Nat.{ℕ, zero, suc, _+_, _-_, _*_, _/_, _<_, _≤_}
-use native.Mathlib.Nat.{le-of-suc-le-suc, not-suc-le-zero}
+use Prim.Native.Nat.{ℕ, zero, suc, _+_, _-_, _*_, _/_, _^_, _<_, _≤_}
+use native.Mathlib.Nat.{le-of-suc-le-suc, not-suc-le-zero, suc-mul, mul-le-mul, mul-le-mul-right}
 use native.Mathlib.Omega.{arith}
-use lib.ListN.{length, replicate, length-replicate}
+use lib.ListN.{length}
 use borrow.Author.Tests.{ne-eqb, eq-eqb, leb-true, leb-false, eqb-true, eqb-false}
 use Rattle.wire.specs.declared.Layout.{Layout}
 use Rattle.wire.specs.Tests.{pick, both}
 use Rattle.wire.specs.Shape.{Shape}
 use Rattle.wire.specs.Table.{u16At, kindOf, nodeAt, recordOf, shapesAt, shapeOf}
 use Rattle.wire.specs.Append.{isOpen, isOpenRoot, matches, firsts, appends}
-use Rattle.laws.specs.Tables.{nodeFirst, nodeCount, nodeShape, GoodTable, Limits}
-use Rattle.laws.proofs.Splits.{by-test, not-both}
+use Rattle.wire.specs.Answers.{zeroed}
+use Rattle.laws.specs.Tables.{nodeFirst, nodeCount, nodeShape, GoodTable}
+use Rattle.laws.proofs.Splits.{by-test, by-lt, not-both}
+use Rattle.laws.proofs.Areas.{length-zeroed, area-bytes}
 use Rattle.laws.proofs.Children.{shapes-none, shapes-more, matches-nodes, appends-nodes, firsts-counts}
 use Rattle.table.specs.Parts.{Falls}
 use Rattle.table.proofs.Stretches.{falls-next, node-falls}
-use Rattle.append.specs.Area.{width, area, marking, Sound}
-use Rattle.append.specs.Compare.{suits, alike, Asked, Told}
+use Rattle.append.specs.Area.{marking, pairBit, Sound}
+use Rattle.append.specs.Compare.{suits, alike, Begun, Asked, Told}
 use Rattle.append.proofs.Bits.{marking-only, none-marked}
 
 -- ---- counts of children
@@ -67,6 +69,42 @@ module _ (f g : ℕ → Shape) (s t : List ℕ) where
   pairs-free free from at (suc n) (suc k) h same =
       rw (pairs-free free (from + 2) (at + 2) n k (le-of-suc-le-suc h) (λ e. let w : suc n ≡ suc k = same e in omega arith))
 
+-- ---- the pairs' bits: as many as there are pairs, each its own
+
+-- the rows before the row i, and with it
+rows : (w : ℕ) {i n : ℕ} → i < n → i * w + w ≤ n * w
+rows w {i} h = rw (← suc-mul i w) (mul-le-mul-right w h)
+
+pair-below : (n w i j : ℕ) → i < n → j < w → i * w + j < n * w
+pair-below n w i j h k = omega (arith, rows w h)
+
+one-pair : (w p q i j : ℕ) → q < w → j < w → p * w + q ≡ i * w + j → (p ≡ i) × (q ≡ j)
+one-pair w p q i j k k′ e =
+    by-lt p i (λ h. absurd (omega (arith, rows w h))) (λ h. by-lt i p (λ h′. absurd (omega (arith, rows w h′))) (λ h′. same (omega arith)))
+  where
+    same : p ≡ i → (p ≡ i) × (q ≡ j)
+    same f = let e = rw f at e in (f, omega arith)
+
+module _ {s t : List ℕ} {l m : Layout} {a : List ℕ} (begun : Begun s l t m a) where
+  pairs-few : l .nodes * m .nodes ≤ 16777216
+  pairs-few = mul-le-mul (begun .few-old .few-nodes) (begun .few-new .few-nodes)
+
+  pub as-long : {b : List ℕ} → length b ≡ length a → Begun s l t m b
+  as-long e = record {
+    old = begun .old;
+    new = begun .new;
+    few-old = begun .few-old;
+    few-new = begun .few-new;
+    room = rw e (begun .room);
+  }
+
+  module _ {i : ℕ} (h : i < l .nodes) where
+    row-few : i * m .nodes < 16777216 + 1
+    row-few = omega (arith, rows (m .nodes) h, pairs-few)
+
+    pair-few : {j : ℕ} → j < m .nodes → i * m .nodes + j < 16777216
+    pair-few {j} k = omega (arith, pair-below (l .nodes) (m .nodes) i j h k, pairs-few)
+
 -- ---- two nodes
 
 falls-fewer : {s : List ℕ} {from n k i : ℕ} → k ≤ n → Falls s from n i → Falls s from k i
@@ -108,8 +146,8 @@ module _ {s t : List ℕ} {l m : Layout} {i j x y : ℕ} {a : List ℕ} (asked :
         let fewer = c .0 in
         record {
           same = rw (f, g) (pairs-free _ _ s t free _ _ n k (c .0) (c .1) ∙ sym step);
-          olds = rw (f, olds) (node-falls (asked .old) (asked .left));
-          news = rw g (falls-fewer (omega arith) (node-falls (asked .new) (asked .right)));
+          olds = rw (f, olds) (node-falls (asked .begun .old) (asked .left));
+          news = rw g (falls-fewer (omega arith) (node-falls (asked .begun .new) (asked .right)));
           sound = asked .sound;
         }
 
@@ -136,44 +174,53 @@ module _ {s t : List ℕ} {l m : Layout} {i j : ℕ} {free : Bool} {a b : List �
 module _ {s t : List ℕ} {l m : Layout} {i j : ℕ} {a : List ℕ} (asked : Asked s l i t m j a) where
   pub matches-alike : {x : ℕ} {free : Bool} → x ≡ Number s l i → free ≡ isOpen (kindOf x) → alike free s l i t m j ≡ matches (nodeShape s l i) (nodeShape t m j)
   unfolding alike
-  matches-alike e f = rw (f, e) (sym (matches-nodes (asked .old .node-good i (asked .left)) (asked .new .node-good j (asked .right))))
+  matches-alike e f = rw (f, e) (sym (matches-nodes (asked .begun .old .node-good i (asked .left)) (asked .begun .new .node-good j (asked .right))))
 
-  -- a pair's bit lies within the area
-  pub pair-inside : (i * width + j) / 8 < length a
-  pair-inside = omega (arith, asked .few-old .few-nodes, asked .few-new .few-nodes)
+  -- a pair's number fits a word, and its bit lies within the area
+  pub row-fits : i * m .nodes < 2 ^ 64
+  row-fits = omega (arith, row-few (asked .begun) (asked .left))
+
+  pub pair-fits : i * m .nodes + j < 2 ^ 64
+  pair-fits = omega (arith, pair-few (asked .begun) (asked .left) (asked .right))
+
+  pub pair-inside : pairBit m i j / 8 < length a
+  pair-inside = omega (arith, pair-few (asked .begun) (asked .left) (asked .right), area-bytes, asked .begun .room)
 
   -- marking a pair that matches keeps the area sound
   pub sound-marking : {b : List ℕ} → length b ≡ length a → Sound s l t m b → true ≡ matches (nodeShape s l i) (nodeShape t m j)
-      → Sound s l t m (marking b (i * width + j))
+      → Sound s l t m (marking b (pairBit m i j))
   sound-marking {b} same sound is = record {
-    found = λ p q h k e. ⊎-elim (λ w. here p q h k w) (λ w. sound .found p q h k w) (marking-only b (i * width + j) (rw same pair-inside) (p * width + q) e);
+    found = λ p q h k e. ⊎-elim (λ w. here p q k w) (λ w. sound .found p q h k w) (marking-only b (pairBit m i j) (rw same pair-inside) (pairBit m p q) e);
   }
     where
-      here : (p q : ℕ) → p < l .nodes → q < m .nodes → p * width + q ≡ i * width + j → matches (nodeShape s l p) (nodeShape t m q) ≡ true
-      here p q h k w =
-          let few = asked .few-new .few-nodes in
-          let less = asked .right in
-          let e : p ≡ i = omega arith in
-          let f : q ≡ j = omega arith in
+      here : (p q : ℕ) → q < m .nodes → pairBit m p q ≡ pairBit m i j → matches (nodeShape s l p) (nodeShape t m q) ≡ true
+      here p q k w =
+          let (e, f) = one-pair (m .nodes) p q i j k (asked .right) w in
           rw (e, f) (sym is)
 
--- ---- an area of zeros, and the roots
+-- ---- the bits of all pairs cleared, and the roots
 
-module _ {s t : List ℕ} {l m : Layout} (good : GoodTable s l × GoodTable t m) (few : Limits l × Limits m) where
-  pub fresh-asked : {i j : ℕ} → i < l .nodes → j < m .nodes → Asked s l i t m j (replicate area 0)
-  fresh-asked left right = record {
-    old = good .0;
-    new = good .1;
-    few-old = few .0;
-    few-new = few .1;
-    left = left;
-    right = right;
-    room = omega (arith, length-replicate {A = ℕ} area 0);
-    sound = record { found = λ i j h k e. none-marked area (i * width + j) (omega (arith, few .0 .few-nodes, few .1 .few-nodes)) e };
-  }
+module _ {s t : List ℕ} {l m : Layout} {a : List ℕ} (begun : Begun s l t m a) where
+  -- the bytes that they take, as a number and within the area
+  abbrev used : ℕ
+  used = (l .nodes * m .nodes + 7) / 8
 
-  pub roots-asked : Asked s l (l .root) t m (m .root) (replicate area 0)
-  roots-asked = fresh-asked (good .0 .root-below) (good .1 .root-below)
+  pub pairs-fit : l .nodes * m .nodes < 2 ^ 64
+  pairs-fit = omega (arith, pairs-few begun)
+
+  pub used-fits : l .nodes * m .nodes + 7 < 2 ^ 64
+  used-fits = omega (arith, pairs-few begun)
+
+  pub used-inside : used ≤ length a
+  used-inside = omega (arith, pairs-few begun, area-bytes, begun .room)
+
+  pub roots-asked : {b : List ℕ} {n : ℕ} → n ≡ used → b ≡ zeroed n a → Asked s l (l .root) t m (m .root) b
+  roots-asked e f = rw (f, e) (record {
+    begun = as-long begun (length-zeroed used a used-inside);
+    left = begun .old .root-below;
+    right = begun .new .root-below;
+    sound = record { found = λ i j h k f. none-marked used (pairBit m i j) a (omega (arith, pair-below (l .nodes) (m .nodes) i j h k)) f };
+  })
 
 pub appends-alike : {s t : List ℕ} {l m : Layout} → GoodTable s l × GoodTable t m → {x : ℕ} {free : Bool} → x ≡ Number s l (l .root) → free ≡ isOpenRoot (kindOf x)
     → alike free s l (l .root) t m (m .root) ≡ appends (shapeOf s l) (shapeOf t m)

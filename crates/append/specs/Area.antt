@@ -11,13 +11,6 @@ use Rattle.wire.specs.Tests.{pick}
 use Rattle.wire.specs.Append.{matches}
 use Rattle.laws.specs.Tables.{nodeShape}
 
--- how many bits an old node has, and how many bytes they take in all
-abbrev pub width : ℕ
-width = 256
-
-abbrev pub area : ℕ
-area = 8192
-
 -- bit k of the area is set
 unfoldable pub marked : List ℕ → ℕ → Bool
 marked a k = eqb (getD a (k / 8) 0 / 2 ^ (k % 8) % 2) 1
@@ -26,6 +19,10 @@ marked a k = eqb (getD a (k / 8) 0 / 2 ^ (k % 8) % 2) 1
 unfoldable pub marking : List ℕ → ℕ → List ℕ
 marking a k = pick (marked a k) a (set a (k / 8) (getD a (k / 8) 0 + 2 ^ (k % 8)))
 
+-- the bit of the old node i and the new node j: as many to an old node as the new table has nodes
+abbrev pub pairBit : Layout → ℕ → ℕ → ℕ
+pairBit m i j = i * m .nodes + j
+
 -- every pair that is marked matches
 pub record Sound (s : List ℕ) (l : Layout) (t : List ℕ) (m : Layout) (a : List ℕ) : Type 0 where
-  pub found : (i j : ℕ) → i < l .nodes → j < m .nodes → marked a (i * width + j) ≡ true → matches (nodeShape s l i) (nodeShape t m j) ≡ true
+  pub found : (i j : ℕ) → i < l .nodes → j < m .nodes → marked a (pairBit m i j) ≡ true → matches (nodeShape s l i) (nodeShape t m j) ≡ true

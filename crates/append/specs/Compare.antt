@@ -12,9 +12,9 @@ use Rattle.wire.specs.declared.AskAnswer.{AskAnswer}
 use Rattle.wire.specs.Tests.{pick, both}
 use Rattle.wire.specs.Table.{nodeAt, recordOf, check}
 use Rattle.wire.specs.Append.{firsts}
-use Rattle.wire.specs.Answers.{askBy}
+use Rattle.wire.specs.Answers.{areaBytes, askBy}
 use Rattle.laws.specs.Tables.{nodeShapes, GoodTable, Limits}
-use Rattle.append.specs.Area.{area, Sound}
+use Rattle.append.specs.Area.{Sound}
 
 -- so many old children go with so many new ones: as many, or at least as many where more may follow
 abbrev pub suits : (free : Bool) → ℕ → ℕ → Bool
@@ -30,15 +30,19 @@ alike free s l i t m j =
 abbrev pub after : List ℕ → Layout → List ℕ → AskAnswer
 after s l t = askBy (Good l) (check t) s t
 
--- two nodes of two good tables that keep to the limits, and a work area in which a pair is marked only if it matches
-pub record Asked (s : List ℕ) (l : Layout) (i : ℕ) (t : List ℕ) (m : Layout) (j : ℕ) (a : List ℕ) : Type 0 where
+-- two good tables that keep to the limits, and a work area that is long enough
+pub record Begun (s : List ℕ) (l : Layout) (t : List ℕ) (m : Layout) (a : List ℕ) : Type 0 where
   pub old : GoodTable s l
   pub new : GoodTable t m
   pub few-old : Limits l
   pub few-new : Limits m
+  pub room : areaBytes ≤ length a
+
+-- two nodes of such tables, and such an area in which a pair is marked only if it matches
+pub record Asked (s : List ℕ) (l : Layout) (i : ℕ) (t : List ℕ) (m : Layout) (j : ℕ) (a : List ℕ) : Type 0 where
+  pub begun : Begun s l t m a
   pub left : i < l .nodes
   pub right : j < m .nodes
-  pub room : area ≤ length a
   pub sound : Sound s l t m a
 
 -- the answer, and such an area again

@@ -5,21 +5,30 @@ use wire::Layout;
 use wire::Side;
 ghost use mathlib.Core.Path.{_≡_};
 ghost use mathlib.Core.Bool.{true};
-ghost use Prim.Native.Nat.{_/_, _<_};
-ghost use lib.ListN.{length};
-ghost use Rattle.wire.specs.Table.{isKind, kindOf, shapeOf};
+ghost use Prim.Native.Nat.{_/_, _<_, _≤_};
+ghost use lib.ListN.{length, replicate};
+ghost use Rattle.wire.specs.Table.{isKind, kindOf, shapeOf, check as checkOf};
 ghost use Rattle.wire.specs.Append.{isOpen, isOpenRoot, matches, appends as appendsOf};
-ghost use Rattle.wire.specs.Answers.{asks};
+ghost use Rattle.wire.specs.Answers.{areaBytes, askBy};
+ghost use Rattle.laws.specs.Answered.{Asks};
 ghost use Rattle.laws.specs.Tables.{nodeShape, GoodTable, Limits};
 ghost use Rattle.append.specs.Area.{marked, marking};
-ghost use Rattle.append.specs.Compare.{suits, alike, after, Asked, Told};
+ghost use Rattle.append.specs.Compare.{suits, alike, after, Begun, Asked, Told};
 
-// The work area has a bit for each pair of an old node and a new one: so many to an old node, in so many bytes.
-const WIDTH: usize = 256;
-
-const AREA: usize = 8192;
+// The work area's bytes: one bit a pair of 4,096 nodes.
+pub const AREA: usize = 2097152;
 
 // ---- the work area
+
+pub fn clear(area: &mut [u8])
+    ensures { λ r. ⌜ now (area .exit) ≡ replicate (length (now (area .entry))) 0 ⌝ }
+{
+    let mut i = 0;
+    while i < area.len() {
+        area[i] = 0;
+        i = i + 1;
+    }
+}
 
 fn is_marked(area: &[u8], pair: usize) -> bool
     requires { ⌜ pair / 8 < length (now area) ⌝ }
@@ -73,7 +82,7 @@ fn fits(free: bool, old: usize, new: usize) -> bool
 }
 
 // Whether the old node i matches the new node j. A pair that is marked was found to match, and isn't compared again.
-fn nodes_match(
+pub fn nodes_match(
     old: &[u8],
     l: Layout,
     i: usize,
@@ -85,7 +94,7 @@ fn nodes_match(
     requires { ⌜ Asked (now old) l i (now new) m j (now area) ⌝ }
     ensures { λ r. ⌜ Told (now (old .entry)) l (now (new .entry)) m (matches (nodeShape (now (old .entry)) l i) (nodeShape (now (new .entry)) m j)) (now (area .exit)) r ⌝ }
 {
-    let pair = i * WIDTH + j;
+    let pair = i * m.nodes + j;
     if is_marked(area, pair) {
         return true;
     }
@@ -137,36 +146,26 @@ fn compare(
     true
 }
 
-// The same for a caller that keeps no work area.
-pub fn pair_matches(old: &[u8], l: Layout, i: usize, new: &[u8], m: Layout, j: usize) -> bool
-    requires { ⌜ GoodTable (now old) l × GoodTable (now new) m ⌝ }
-    requires { ⌜ Limits l × Limits m ⌝ }
-    requires { ⌜ (i < l .nodes) × (j < m .nodes) ⌝ }
-    ensures { λ r. ⌜ r ≡ matches (nodeShape (now (old .entry)) l i) (nodeShape (now (new .entry)) m j) ⌝ }
-{
-    let mut area = [0u8; AREA];
-    nodes_match(old, l, i, new, m, j, &mut area)
-}
-
 // ---- the question
 
-// Whether the new one of two good tables appends to the old one.
-pub fn roots_append(old: &[u8], l: Layout, new: &[u8], m: Layout) -> bool
-    requires { ⌜ GoodTable (now old) l × GoodTable (now new) m ⌝ }
-    requires { ⌜ Limits l × Limits m ⌝ }
-    ensures { λ r. ⌜ r ≡ appendsOf (shapeOf (now (old .entry)) l) (shapeOf (now (new .entry)) m) ⌝ }
+// Whether the new one of two good tables appends to the old one. Whatever the area held, the bits of their pairs are cleared before.
+pub fn roots_append(old: &[u8], l: Layout, new: &[u8], m: Layout, area: &mut [u8]) -> bool
+    requires { ⌜ Begun (now old) l (now new) m (now area) ⌝ }
+    ensures { λ r. ⌜ Told (now (old .entry)) l (now (new .entry)) m (appendsOf (shapeOf (now (old .entry)) l) (shapeOf (now (new .entry)) m)) (now (area .exit)) r ⌝ }
 {
-    let mut area = [0u8; AREA];
     let i = l.root;
     let j = m.root;
+    let used = (l.nodes * m.nodes + 7) / 8;
+    clear(&mut area[0..used]);
     let number = table::kind_at(old, l, i);
     let free = is_open_root(number);
-    compare(old, l, i, new, m, j, free, &mut area)
+    compare(old, l, i, new, m, j, free, area)
 }
 
 // The answer where the old table is good.
-fn after_old(old: &[u8], l: Layout, new: &[u8]) -> AskAnswer
+fn after_old(old: &[u8], l: Layout, new: &[u8], area: &mut [u8]) -> AskAnswer
     requires { ⌜ GoodTable (now old) l × Limits l ⌝ }
+    requires { ⌜ areaBytes ≤ length (now area) ⌝ }
     ensures { λ r. ⌜ r ≡ after (now (old .entry)) l (now (new .entry)) ⌝ }
 {
     match table::check(new) {
@@ -176,14 +175,15 @@ fn after_old(old: &[u8], l: Layout, new: &[u8]) -> AskAnswer
             place,
         },
         Checked::Good { layout } => AskAnswer::Says {
-            yes: roots_append(old, l, new, layout),
+            yes: roots_append(old, l, new, layout, area),
         },
     }
 }
 
-// Whether the new table only appends to the old one; or which of them is not good, the old one first, why and at which node.
-pub fn appends(old: &[u8], new: &[u8]) -> AskAnswer
-    ensures { λ r. ⌜ r ≡ asks (now (old .entry)) (now (new .entry)) ⌝ }
+// The answer where the work area is long enough.
+fn ask(old: &[u8], new: &[u8], area: &mut [u8]) -> AskAnswer
+    requires { ⌜ areaBytes ≤ length (now area) ⌝ }
+    ensures { λ r. ⌜ r ≡ askBy (checkOf (now (old .entry))) (checkOf (now (new .entry))) (now (old .entry)) (now (new .entry)) ⌝ }
 {
     match table::check(old) {
         Checked::Bad { why, place } => AskAnswer::Refused {
@@ -191,6 +191,27 @@ pub fn appends(old: &[u8], new: &[u8]) -> AskAnswer
             why,
             place,
         },
-        Checked::Good { layout } => after_old(old, layout, new),
+        Checked::Good { layout } => after_old(old, layout, new, area),
     }
+}
+
+// The same in the area's first bytes, so many as it must have, which are cleared after it.
+fn ask_and_clear(old: &[u8], new: &[u8], area: &mut [u8], size: usize) -> AskAnswer
+    requires { ⌜ (areaBytes ≡ size) × (size ≤ length (now area)) ⌝ }
+    ensures { λ r. ⌜ Asks (now (old .entry)) (now (new .entry)) (now (area .entry)) r (now (area .exit)) ⌝ }
+{
+    let answer = ask(old, new, &mut area[0..size]);
+    clear(&mut area[0..size]);
+    answer
+}
+
+// Whether the new table only appends to the old one; or which of them is not good, the old one first, why and at which node.
+// The work area comes back all zero; one that is too short is refused before all else, and unchanged.
+pub fn appends(old: &[u8], new: &[u8], area: &mut [u8]) -> AskAnswer
+    ensures { λ r. ⌜ Asks (now (old .entry)) (now (new .entry)) (now (area .entry)) r (now (area .exit)) ⌝ }
+{
+    if AREA <= area.len() {
+        return ask_and_clear(old, new, area, AREA);
+    }
+    AskAnswer::ShortArea
 }

@@ -15,12 +15,12 @@ use Rattle.wire.specs.declared.WriteAnswer.{WriteAnswer}
 use Rattle.wire.specs.declared.WriteAnswer.the-variants.{Done as Written, Refused as NotWritten}
 use Rattle.wire.specs.declared.Side.{Side}
 use Rattle.wire.specs.declared.AskAnswer.{AskAnswer}
-use Rattle.wire.specs.declared.AskAnswer.the-variants.{Says, Refused as NotAsked}
+use Rattle.wire.specs.declared.AskAnswer.the-variants.{Says, Refused as NotAsked, ShortArea}
 use Rattle.wire.specs.declared.TakeAnswer.{TakeAnswer}
 use Rattle.wire.specs.declared.TakeAnswer.the-variants.{Done as Taken, Refused as NotTaken}
 use Rattle.wire.specs.Reading.{Run, Outcome, reached, refused}
-use Rattle.wire.specs.Answers.{sideNumber, yesNumber, refusalNumber, numbered, done, checkSays, readSays, writeSays, takeSays, askSays, readAnswer, placeAfter, Form}
-use Rattle.laws.specs.Answered.{Reads, Writes}
+use Rattle.wire.specs.Answers.{sideNumber, yesNumber, refusalNumber, numbered, done, checkSays, readSays, writeSays, takeSays, askSays, readAnswer, placeAfter, Form, asks}
+use Rattle.laws.specs.Answered.{Reads, Writes, Asks}
 use Rattle.exports.specs.Calls.{Told, countOf, Counted, Read, Wrote, whichOf, yesOf, Asked, firstOf, secondOf, atOf, Took}
 
 -- ---- the check
@@ -70,13 +70,19 @@ module _ {f : Form} {out left : List ℕ} {r : WriteAnswer} (h : Writes f out r 
 
 -- ---- the append question
 
-pub ask-says : {a r : AskAnswer} {y : Bool} {n : ℕ} → r ≡ a → r ≡ Says y → n ≡ yesNumber y → Asked a 0 0 0 n
-unfolding askSays done whichOf yesOf
-ask-says e g h = rw (← e, g) (record { told = record { number = refl; place = refl }; which = refl; yes = h })
+module _ {old new area left : List ℕ} {r : AskAnswer} (h : Asks old new area r left) where
+  pub ask-says : {y : Bool} {n : ℕ} → r ≡ Says y → n ≡ yesNumber y → Asked (asks old new area) area 0 0 0 n left
+  unfolding askSays done whichOf yesOf
+  ask-says g e = rw (sym (h .answered) ∙ g) (record { told = record { number = refl; place = refl }; which = refl; yes = e; handed = h .stored })
 
-pub ask-refused : {a r : AskAnswer} {t : Side} {w : Refusal} {i n m : ℕ} → r ≡ a → r ≡ NotAsked t w i → n ≡ refusalNumber w → m ≡ sideNumber t → Asked a n i m 0
-unfolding askSays numbered whichOf yesOf
-ask-refused e g h k = rw (← e, g) (record { told = record { number = h; place = refl }; which = k; yes = refl })
+  pub ask-refused : {t : Side} {w : Refusal} {i n m : ℕ} → r ≡ NotAsked t w i → n ≡ refusalNumber w → m ≡ sideNumber t
+      → Asked (asks old new area) area n i m 0 left
+  unfolding askSays numbered whichOf yesOf
+  ask-refused g e k = rw (sym (h .answered) ∙ g) (record { told = record { number = e; place = refl }; which = k; yes = refl; handed = h .stored })
+
+  pub ask-short : r ≡ ShortArea → Asked (asks old new area) area 25 0 0 0 left
+  unfolding askSays whichOf yesOf
+  ask-short g = rw (sym (h .answered) ∙ g) (record { told = record { number = refl; place = refl }; which = refl; yes = refl; handed = h .stored })
 
 -- ---- one item
 

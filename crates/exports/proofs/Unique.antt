@@ -30,11 +30,12 @@ one-wrote f out x y h k = λ i. (
 )
 
 pub one-asked : OneAsked
-one-asked a x y h k = λ i. (
+one-asked a area x y h k = λ i. (
   alike (h .told .number) (k .told .number) i,
   alike (h .told .place) (k .told .place) i,
   alike (h .which) (k .which) i,
   alike (h .yes) (k .yes) i,
+  alike (h .handed) (k .handed) i,
 )
 
 pub one-fed-call : OneFedCall

@@ -7,11 +7,11 @@ use lib.ListN.{length, drop}
 use Rattle.wire.specs.declared.ReadAnswer.{ReadAnswer}
 use Rattle.wire.specs.declared.ReadAnswer.the-variants.{Done, Refused as NotRead}
 use Rattle.wire.specs.declared.AskAnswer.{AskAnswer}
-use Rattle.wire.specs.declared.AskAnswer.the-variants.{Says, Refused as NotAsked}
+use Rattle.wire.specs.declared.AskAnswer.the-variants.{Says, Refused as NotAsked, ShortArea}
 use Rattle.wire.specs.declared.TakeAnswer.{TakeAnswer}
 use Rattle.wire.specs.declared.TakeAnswer.the-variants.{Done as Taken, Refused as NotTaken}
 use Rattle.wire.specs.Reading.{Run}
-use Rattle.wire.specs.Answers.{sideNumber, yesNumber, feedNumber, Numbered, readSays, writeSays, takeSays, askSays, storeWith, readAnswer, placeAfter, Form, writeAnswer, outWith}
+use Rattle.wire.specs.Answers.{sideNumber, yesNumber, feedNumber, Numbered, readSays, writeSays, takeSays, askSays, storeWith, readAnswer, placeAfter, Form, writeAnswer, outWith, areaAfter}
 use Rattle.accumulator.specs.Feeding.{Lent}
 
 -- document 01's number is returned, and the place left
@@ -42,16 +42,19 @@ pub record Wrote (f : Form) (out : List ℕ) (r p : ℕ) (out′ : List ℕ) : T
 unfoldable pub whichOf : AskAnswer → ℕ
 whichOf (Says y) = 0
 whichOf (NotAsked t e i) = sideNumber t
+whichOf ShortArea = 0
 
 -- 0 on a refusal
 unfoldable pub yesOf : AskAnswer → ℕ
 yesOf (Says y) = yesNumber y
 yesOf (NotAsked t e i) = 0
+yesOf ShortArea = 0
 
-pub record Asked (a : AskAnswer) (r p t y : ℕ) : Type 0 where
+pub record Asked (a : AskAnswer) (area : List ℕ) (r p t y : ℕ) (area′ : List ℕ) : Type 0 where
   pub told : Told (askSays a) r p
   pub which : t ≡ whichOf a
   pub yes : y ≡ yesOf a
+  pub handed : area′ ≡ areaAfter area
 
 pub record Fed (f : Lent) (chunk : List ℕ) (r i n from : ℕ) (array′ message′ : List ℕ) : Type 0 where
   pub number : r ≡ feedNumber (f .fed .answer)

@@ -20,7 +20,7 @@ abbrev pub OneWrote : Type 0
 OneWrote = (f : Form) (out : List ℕ) → Unique (λ (x : ℕ × ℕ × List ℕ). Wrote f out (x .0) (x .1) (x .2))
 
 abbrev pub OneAsked : Type 0
-OneAsked = (a : AskAnswer) → Unique (λ (x : ℕ × ℕ × ℕ × ℕ). Asked a (x .0) (x .1) (x .2) (x .3))
+OneAsked = (a : AskAnswer) (area : List ℕ) → Unique (λ (x : ℕ × ℕ × ℕ × ℕ × List ℕ). Asked a area (x .0) (x .1) (x .2) (x .3) (x .4))
 
 abbrev pub OneFedCall : Type 0
 OneFedCall = (f : Lent) (chunk : List ℕ) → Unique (λ (x : ℕ × ℕ × ℕ × ℕ × List ℕ × List ℕ). Fed f chunk (x .0) (x .1) (x .2) (x .3) (x .4) (x .5))

@@ -107,13 +107,14 @@ pub extern "C" fn reystavem_write(
 pub extern "C" fn reystavem_append(
     old_table: &[u8],
     new_table: &[u8],
+    area: &mut [u8],
     place: &mut u64,
     which: &mut u64,
     yes: &mut u64,
 ) -> u64
-    ensures { λ r. ⌜ Asked (asks (now («old_table» .entry)) (now («new_table» .entry))) r (now (place .exit)) (now (which .exit)) (now (yes .exit)) ⌝ }
+    ensures { λ r. ⌜ Asked (asks (now («old_table» .entry)) (now («new_table» .entry)) (now (area .entry))) (now (area .entry)) r (now (place .exit)) (now (which .exit)) (now (yes .exit)) (now (area .exit)) ⌝ }
 {
-    let got = append::appends(old_table, new_table);
+    let got = append::appends(old_table, new_table, area);
     match got {
         AskAnswer::Says { yes: says } => {
             *place = 0;
@@ -130,6 +131,12 @@ pub extern "C" fn reystavem_append(
             *which = numbers::side(side);
             *yes = 0;
             numbers::refusal(why)
+        }
+        AskAnswer::ShortArea => {
+            *place = 0;
+            *which = 0;
+            *yes = 0;
+            numbers::SHORT_AREA
         }
     }
 }

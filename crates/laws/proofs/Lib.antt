@@ -2,6 +2,7 @@
 pub mod Walks
 pub mod Splits
 pub mod Parts
+pub mod Areas
 pub mod Rule
 pub mod KindRanges
 pub mod EachKind
@@ -14,7 +15,9 @@ pub mod Beside
 pub mod Longer
 pub mod Numbering
 pub mod Unique
+pub mod Trailers
 pub mod Tables
+pub mod Chains
 pub mod Children
 pub mod Numbers
 pub mod Bytes

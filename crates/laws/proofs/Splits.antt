@@ -1,8 +1,8 @@
 -- A test has one of two answers, and each side of a choice need only hold where its answer is given.
 -- Assumes nothing.
-use mathlib.Core.Path.{_≡_, refl}
+use mathlib.Core.Path.{_≡_, refl, sym, subst}
 use mathlib.Core.Bool.{Bool, true, false}
-use Prim.Native.Nat.{ℕ, _<_, _≤_}
+use Prim.Native.Nat.{ℕ, _+_, _<_, _≤_}
 use native.Mathlib.Omega.{arith}
 use lib.Dec.{ltb, leb, eqb}
 use borrow.Author.Tests.{ltb-true, ltb-false, leb-true, leb-false, eqb-true, eqb-false}
@@ -25,6 +25,10 @@ by-eq a b f g = by-test (eqb a b) (λ e. f (eqb-true a b e)) (λ e. g (eqb-false
 
 pub not-both {ℓ} : {X : Type ℓ} {t : Bool} → t ≡ true → t ≡ false → X
 not-both e f = let z : _≡_ {A = ℕ} 0 1 = cc in absurd (omega arith)
+
+-- what holds below i and at i holds up to i
+pub up-to {ℓ} : (P : ℕ → Type ℓ) (i : ℕ) → ((j : ℕ) → j < i → P j) → P i → (j : ℕ) → j < i + 1 → P j
+up-to P i below here j h = by-eq j i (λ same. subst P (sym same) here) (λ other. below j (omega arith))
 
 -- ---- choices
 

@@ -50,6 +50,6 @@ pub record GoodTable (s : List ℕ) (l : Layout) : Type 0 where
   pub its-shape : shapeOf s l ≡ nodeShape s l (l .root)
   pub short-chains : (i : ℕ) → i < l .nodes → depth (nodeShape s l i) ≤ 256
 
--- what its trailer allows, for code that keeps something for each node
+-- what a trailer of either form allows, for code that keeps something for each node
 pub record Limits (l : Layout) : Type 0 where
-  pub few-nodes : l .nodes ≤ 256
+  pub few-nodes : l .nodes ≤ 4096

@@ -96,7 +96,7 @@ pub fn show(table: &[u8]) {
         Checked::Good { layout } => {
             say_with(b"good table of # node$\nroot: ", layout.nodes as u64);
             let root = layout.root;
-            let mut seen = [0u8; 256];
+            let mut seen = [0u8; 4096];
             show_node(table, layout, root, 0, &mut seen);
         }
     }

@@ -25,6 +25,9 @@ pub fn refusal(why: Refusal) -> u64
     }
 }
 
+// The append question's work area is too short.
+pub const SHORT_AREA: u64 = 25;
+
 // 0 for the old table, 1 for the new one.
 pub fn side(side: Side) -> u64
     ensures { λ r. ⌜ r ≡ sideNumber side ⌝ }

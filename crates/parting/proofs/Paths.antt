@@ -9,6 +9,9 @@ use lib.Seq.{sets}
 use Rattle.wire.specs.declared.Layout.{Layout}
 use Rattle.laws.specs.Tables.{nodeShape, GoodTable}
 use Rattle.laws.proofs.Parts.{sets-append}
+use Rattle.append.specs.Area.{Sound}
+use Rattle.append.specs.Compare.{Asked}
+use Rattle.append.proofs.Matching.{as-long}
 use Rattle.parting.specs.declared.Next.{Next}
 use Rattle.parting.specs.declared.Next.the-variants.{Here, Down}
 use Rattle.parting.specs.Pairs.{partingAt, Leads, Follows, Stored}
@@ -20,18 +23,14 @@ pub record Gone (s : List ℕ) (l : Layout) (t : List ℕ) (m : Layout) (path no
   pub deep : depth ≡ length front
   pub whole : partingAt s l (l .root) t m (m .root) ≡ front ++ partingAt s l i t m j
   pub stored : now ≡ sets path 0 front
-  pub left : i < l .nodes
-  pub right : j < m .nodes
   pub room : depth + length (partingAt s l i t m j) < 256
 
-pub gone-start : {s t : List ℕ} {l m : Layout} (path : List ℕ) → GoodTable s l → GoodTable t m → Gone s l t m path path (l .root) (m .root) 0
-gone-start {t} {m} path old new = record {
+pub gone-start : {s t : List ℕ} {l m : Layout} (path : List ℕ) → GoodTable s l → Gone s l t m path path (l .root) (m .root) 0
+gone-start {t} {m} path old = record {
   front = [];
   deep = refl;
   whole = refl;
   stored = refl;
-  left = old .root-below;
-  right = new .root-below;
   room = omega (arith, few-positions old (nodeShape t m (m .root)));
 }
 
@@ -47,14 +46,21 @@ module _ {s t : List ℕ} {l m : Layout} {path now : List ℕ} {i j depth : ℕ}
   pub next-lower : {c p q : ℕ} → r ≡ Down c p q → p < i
   next-lower e = let leads : Leads s l i t m j _ _ _ = rw e at told in leads .lower
 
+  -- the children are nodes too, with the area b that is left
+  pub asked-next : {a b : List ℕ} → Asked s l i t m j a → length b ≡ length a → Sound s l t m b → {c p q : ℕ} → r ≡ Down c p q → Asked s l p t m q b
+  asked-next asked same sound e = let leads : Leads s l i t m j _ _ _ = rw e at told in record {
+    begun = as-long (asked .begun) same;
+    left = omega (arith, asked .left, leads .lower);
+    right = omega (arith, asked .right, leads .below);
+    sound = sound;
+  }
+
   pub gone-next : {c p q : ℕ} → r ≡ Down c p q → Gone s l t m path (set now depth c) p q (depth + 1)
   gone-next {c} e = let leads : Leads s l i t m j c _ _ = rw e at told in record {
     front = here .front ++ c ∷ [];
     deep = omega (arith, here .deep, one-more (here .front) c);
     whole = here .whole ∙ ap (λ p. here .front ++ p) (leads .on) ∙ sym (append-assoc (here .front) (c ∷ []) _);
     stored = rw (here .stored) (next-word (here .front) path c depth (here .deep));
-    left = omega (arith, here .left, leads .lower);
-    right = omega (arith, here .right, leads .below);
     room = omega (arith, here .room, ap length (leads .on));
   }
 

@@ -20,7 +20,8 @@ use Rattle.laws.proofs.Numbering.{same-number}
 use Rattle.table.specs.Parts.{Falls}
 use Rattle.table.proofs.Stretches.{falls-first, falls-next, node-falls}
 use Rattle.parting.specs.Parting.{parting, partingOf}
-use Rattle.parting.specs.Pairs.{partingAt, Pair, Leads}
+use Rattle.append.specs.Compare.{Asked}
+use Rattle.parting.specs.Pairs.{partingAt, Leads}
 
 -- ---- children
 
@@ -63,11 +64,11 @@ module _ {s t : List ℕ} {l m : Layout} {i j : ℕ} {r q : Node} (g : GoodNode 
   parting-nodes = rw (g .its-shape, h .its-shape, same-number (r .number) (q .number) (g .is-kind) (h .is-kind))
 
 -- the first things that a search finds: kinds' numbers x and y
-module _ {s t : List ℕ} {l m : Layout} {i j x y : ℕ} (pair : Pair s l i t m j) (old : x ≡ Number s l i) (new : y ≡ Number t m j) where
+module _ {s t : List ℕ} {l m : Layout} {i j x y : ℕ} {a : List ℕ} (asked : Asked s l i t m j a) (old : x ≡ Number s l i) (new : y ≡ Number t m j) where
   pub other-kinds : (x ≡ y → ⊥) → partingAt s l i t m j ≡ []
   unfolding given
   other-kinds ne =
-      parting-nodes (pair .old .node-good i (pair .left)) (pair .new .node-good j (pair .right)) ∙ rw (← old, ← new, ne-eqb x y ne)
+      parting-nodes (asked .begun .old .node-good i (asked .left)) (asked .begun .new .node-good j (asked .right)) ∙ rw (← old, ← new, ne-eqb x y ne)
 
   pub left-start : {n k from at : ℕ} → x ≡ y → n ≡ nodeCount (nodeAt s (recordOf l i)) → k ≡ nodeCount (nodeAt t (recordOf m j))
       → from ≡ nodeFirst l i (nodeAt s (recordOf l i)) → at ≡ nodeFirst m j (nodeAt t (recordOf m j)) → Left s l i t m j n k from at 0
@@ -75,10 +76,10 @@ module _ {s t : List ℕ} {l m : Layout} {i j x y : ℕ} (pair : Pair s l i t m 
   left-start e olds news f g = record {
     same =
         rw (olds, news, f, g)
-        (sym (parting-nodes (pair .old .node-good i (pair .left)) (pair .new .node-good j (pair .right))
+        (sym (parting-nodes (asked .begun .old .node-good i (asked .left)) (asked .begun .new .node-good j (asked .right))
         ∙ rw (eq-eqb (Number s l i) (Number t m j) (sym old ∙ e ∙ new))));
-    olds = rw (f, olds) (node-falls (pair .old) (pair .left));
-    news = rw (g, news) (node-falls (pair .new) (pair .right));
+    olds = rw (f, olds) (node-falls (asked .begun .old) (asked .left));
+    news = rw (g, news) (node-falls (asked .begun .new) (asked .right));
   }
 
 -- no child is left

@@ -6,7 +6,8 @@ use Prim.Native.Nat.{ℕ, _<_}
 use lib.ListN.{length}
 use lib.Seq.{sets}
 use Rattle.wire.specs.declared.Layout.{Layout}
-use Rattle.laws.specs.Tables.{nodeShape, GoodTable, Limits}
+use Rattle.laws.specs.Tables.{nodeShape}
+use Rattle.append.specs.Area.{Sound}
 use Rattle.parting.specs.declared.Next.{Next}
 use Rattle.parting.specs.declared.Next.the-variants.{Here, Down}
 use Rattle.parting.specs.Parting.{parting}
@@ -14,15 +15,6 @@ use Rattle.parting.specs.Parting.{parting}
 -- where the old node i and the new node j part
 abbrev pub partingAt : List ℕ → Layout → ℕ → List ℕ → Layout → ℕ → List ℕ
 partingAt s l i t m j = parting (nodeShape s l i) (nodeShape t m j)
-
--- two nodes of two good tables that keep to the limits
-pub record Pair (s : List ℕ) (l : Layout) (i : ℕ) (t : List ℕ) (m : Layout) (j : ℕ) : Type 0 where
-  pub old : GoodTable s l
-  pub new : GoodTable t m
-  pub few-old : Limits l
-  pub few-new : Limits m
-  pub left : i < l .nodes
-  pub right : j < m .nodes
 
 -- a pair of children at a position, from which the way goes on
 pub record Leads (s : List ℕ) (l : Layout) (i : ℕ) (t : List ℕ) (m : Layout) (j : ℕ) (at p q : ℕ) : Type 0 where
@@ -34,6 +26,11 @@ pub record Leads (s : List ℕ) (l : Layout) (i : ℕ) (t : List ℕ) (m : Layou
 abbrev pub Follows : List ℕ → Layout → ℕ → List ℕ → Layout → ℕ → Next → Type 0
 Follows s l i t m j Here = partingAt s l i t m j ≡ []
 Follows s l i t m j (Down at p q) = Leads s l i t m j at p q
+
+-- and the area has a pair marked only if it matches
+pub record Followed (s : List ℕ) (l : Layout) (i : ℕ) (t : List ℕ) (m : Layout) (j : ℕ) (a : List ℕ) (r : Next) : Type 0 where
+  pub follows : Follows s l i t m j r
+  pub sound : Sound s l t m a
 
 -- the positions p are stored from the path's first word on, and counted
 pub record Stored (p path : List ℕ) (depth : ℕ) (left : List ℕ) : Type 0 where

@@ -7,14 +7,14 @@ use lib.ListN.{length}
 use Rattle.wire.specs.declared.Checked.{Checked}
 use Rattle.wire.specs.declared.Checked.the-variants.{Good, Bad}
 use Rattle.wire.specs.declared.AskAnswer.{AskAnswer}
-use Rattle.wire.specs.declared.AskAnswer.the-variants.{Says, Refused as NotAsked}
+use Rattle.wire.specs.declared.AskAnswer.the-variants.{Says, Refused as NotAsked, ShortArea as NotEnough}
 use Rattle.wire.specs.Tests.{pick, given}
 use Rattle.wire.specs.Shape.{sameKind, Shape, node, Shapes, none, more}
 use Rattle.wire.specs.Table.{check, shapeOf}
 use Rattle.wire.specs.Append.{matches}
-use Rattle.wire.specs.Answers.{asks}
+use Rattle.wire.specs.Answers.{askBy, asks}
 use Rattle.parting.specs.declared.Parting.{Parting}
-use Rattle.parting.specs.declared.Parting.the-variants.{Appends, Apart, Refused}
+use Rattle.parting.specs.declared.Parting.the-variants.{Appends, Apart, Refused, ShortArea}
 
 -- where an old shape and a new one part: from the root down, the position of the first child, in the shapes' order, that doesn't match; none where the two differ by themselves, in their kinds or in how many children they have
 unfoldable mutual
@@ -43,7 +43,12 @@ unfoldable pub partedBy : AskAnswer → (p : List ℕ) → Parted
 partedBy (Says true) p = record { answer = Appends; positions = [] }
 partedBy (Says false) p = record { answer = Apart (length p); positions = p }
 partedBy (NotAsked t e i) p = record { answer = Refused t e i; positions = [] }
+partedBy NotEnough p = record { answer = ShortArea; positions = [] }
 
--- what is answered of an old table and a new one
-unfoldable pub parted : List ℕ → List ℕ → Parted
-parted old new = partedBy (asks old new) (partingBy (check old) (check new) old new)
+-- what is answered of an old table and a new one, with a work area
+unfoldable pub parted : (old new area : List ℕ) → Parted
+parted old new area = partedBy (asks old new area) (partingBy (check old) (check new) old new)
+
+-- the same where the area is long enough
+unfoldable pub partedWithin : (old new : List ℕ) → Parted
+partedWithin old new = partedBy (askBy (check old) (check new) old new) (partingBy (check old) (check new) old new)

@@ -11,6 +11,7 @@ use Rattle.wire.specs.declared.Checked.the-variants.{Good}
 use Rattle.wire.specs.Shape.{Kind, sameKind, Shape, node, Shapes, more, count}
 use Rattle.wire.specs.Table.{check, shapeOf}
 use Rattle.wire.specs.Append.{isOpen}
+use Rattle.wire.specs.Answers.{areaAfter}
 use Rattle.laws.specs.Unique.{Unique}
 use Rattle.append.specs.Compare.{suits}
 use Rattle.parting.specs.declared.Parting.{Parting}
@@ -22,10 +23,15 @@ pub record Parts (w : Parted) (path : List ℕ) (r : Parting) (left : List ℕ) 
   pub answered : r ≡ w .answer
   pub stored : left ≡ sets path 0 (w .positions)
 
+-- the same of an old table and a new one, and the work area as it is left
+pub record Finds (old new area path : List ℕ) (r : Parting) (area′ path′ : List ℕ) : Type 0 where
+  pub parts : Parts (parted old new area) path r path′
+  pub handed : area′ ≡ areaAfter area
+
 -- ---- no choice
 
 abbrev pub OneParting : Type 0
-OneParting = (old new path : List ℕ) → Unique (λ (r : Parting × List ℕ). Parts (parted old new) path (r .0) (r .1))
+OneParting = (old new area path : List ℕ) → Unique (λ (r : Parting × List ℕ × List ℕ). Finds old new area path (r .0) (r .1) (r .2))
 
 -- ---- what the positions lead to
 
@@ -63,9 +69,10 @@ pub record PartAt (old new p : List ℕ) : Type 0 where
 
 -- Where the answer is that the tables part, it is so.
 abbrev pub PartsThere : Type 0
-PartsThere = (old new : List ℕ) (n : ℕ) → parted old new .answer ≡ Apart n → PartAt old new (parted old new .positions) × (n ≡ length (parted old new .positions))
+PartsThere = (old new area : List ℕ) (n : ℕ) → parted old new area .answer ≡ Apart n
+    → PartAt old new (parted old new area .positions) × (n ≡ length (parted old new area .positions))
 
 -- The positions are a path's first words, and its later words are as before.
 abbrev pub FirstWords : Type 0
-FirstWords = (old new path : List ℕ) → length path ≡ 256
-    → sets path 0 (parted old new .positions) ≡ parted old new .positions ++ drop (length (parted old new .positions)) path
+FirstWords = (old new area path : List ℕ) → length path ≡ 256
+    → sets path 0 (parted old new area .positions) ≡ parted old new area .positions ++ drop (length (parted old new area .positions)) path

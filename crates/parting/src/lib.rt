@@ -4,17 +4,20 @@ use wire::Layout;
 use wire::Refusal;
 use wire::Side;
 ghost use mathlib.Core.Path.{_≡_};
+ghost use Prim.Native.Nat.{_≤_};
+ghost use lib.ListN.{length};
 ghost use Rattle.wire.specs.declared.Checked.the-variants.{Good};
 ghost use Rattle.wire.specs.Table.{check as checkOf};
-ghost use Rattle.laws.specs.Tables.{GoodTable, Limits};
-ghost use Rattle.parting.specs.Parting.{parted};
-ghost use Rattle.parting.specs.Pairs.{partingAt, Pair, Follows, Stored};
-ghost use Rattle.parting.specs.Promise.{Parts};
+ghost use Rattle.wire.specs.Answers.{areaBytes};
+ghost use Rattle.append.specs.Compare.{Asked};
+ghost use Rattle.parting.specs.Parting.{partedWithin};
+ghost use Rattle.parting.specs.Pairs.{partingAt, Followed, Stored};
+ghost use Rattle.parting.specs.Promise.{Parts, Finds};
 
 // How many positions a path has room for: one for each node of a good table's longest chain of children, and its last node takes none.
 const ROOM: usize = 256;
 
-// The new table only appends; or they part so many positions down; or one of them is not good, why and at which node.
+// The new table only appends; or they part so many positions down; or one of them is not good, why and at which node; or the work area is too short.
 pub enum Parting {
     Appends,
     Apart {
@@ -25,6 +28,7 @@ pub enum Parting {
         why: Refusal,
         place: usize,
     },
+    ShortArea,
 }
 
 // Where the way goes on from a pair of nodes: nowhere, or to their children p and q at a position.
@@ -34,9 +38,17 @@ enum Next {
 }
 
 // The first pair of children that doesn't match, where the kinds are the same.
-fn next_pair(old: &[u8], l: Layout, i: usize, new: &[u8], m: Layout, j: usize) -> Next
-    requires { ⌜ Pair (now old) l i (now new) m j ⌝ }
-    ensures { λ r. ⌜ Follows (now (old .entry)) l i (now (new .entry)) m j r ⌝ }
+fn next_pair(
+    old: &[u8],
+    l: Layout,
+    i: usize,
+    new: &[u8],
+    m: Layout,
+    j: usize,
+    area: &mut [u8],
+) -> Next
+    requires { ⌜ Asked (now old) l i (now new) m j (now area) ⌝ }
+    ensures { λ r. ⌜ Followed (now (old .entry)) l i (now (new .entry)) m j (now (area .exit)) r ⌝ }
 {
     let number = table::kind_at(old, l, i);
     let other = table::kind_at(new, m, j);
@@ -54,7 +66,7 @@ fn next_pair(old: &[u8], l: Layout, i: usize, new: &[u8], m: Layout, j: usize) -
         }
         let p = table::u16_at(old, from);
         let q = table::u16_at(new, at);
-        if !append::pair_matches(old, l, p, new, m, q) {
+        if !append::nodes_match(old, l, p, new, m, q, area) {
             return Next::Down { position, p, q };
         }
         olds = olds - 1;
@@ -67,16 +79,22 @@ fn next_pair(old: &[u8], l: Layout, i: usize, new: &[u8], m: Layout, j: usize) -
 }
 
 // The positions from the roots down, and how many there are.
-fn go_down(old: &[u8], l: Layout, new: &[u8], m: Layout, path: &mut [u64; ROOM]) -> usize
-    requires { ⌜ GoodTable (now old) l × GoodTable (now new) m ⌝ }
-    requires { ⌜ Limits l × Limits m ⌝ }
+fn go_down(
+    old: &[u8],
+    l: Layout,
+    new: &[u8],
+    m: Layout,
+    area: &mut [u8],
+    path: &mut [u64; ROOM],
+) -> usize
+    requires { ⌜ Asked (now old) l (l .root) (now new) m (m .root) (now area) ⌝ }
     ensures { λ r. ⌜ Stored (partingAt (now (old .entry)) l (l .root) (now (new .entry)) m (m .root)) (now (path .entry)) r (now (path .exit)) ⌝ }
 {
     let mut i = l.root;
     let mut j = m.root;
     let mut depth = 0;
     loop {
-        let Next::Down { position, p, q } = next_pair(old, l, i, new, m, j) else {
+        let Next::Down { position, p, q } = next_pair(old, l, i, new, m, j, area) else {
             return depth;
         };
         path[depth] = position;
@@ -86,22 +104,31 @@ fn go_down(old: &[u8], l: Layout, new: &[u8], m: Layout, path: &mut [u64; ROOM])
     }
 }
 
-// The answer where both tables are good.
-fn of_good(old: &[u8], l: Layout, new: &[u8], m: Layout, path: &mut [u64; ROOM]) -> Parting
+// The answer where both tables are good and the work area is long enough.
+fn of_good(
+    old: &[u8],
+    l: Layout,
+    new: &[u8],
+    m: Layout,
+    area: &mut [u8],
+    path: &mut [u64; ROOM],
+) -> Parting
     requires { ⌜ (checkOf (now old) ≡ Good l) × (checkOf (now new) ≡ Good m) ⌝ }
-    ensures { λ r. ⌜ Parts (parted (now (old .entry)) (now (new .entry))) (now (path .entry)) r (now (path .exit)) ⌝ }
+    requires { ⌜ areaBytes ≤ length (now area) ⌝ }
+    ensures { λ r. ⌜ Parts (partedWithin (now (old .entry)) (now (new .entry))) (now (path .entry)) r (now (path .exit)) ⌝ }
 {
-    if append::roots_append(old, l, new, m) {
+    if append::roots_append(old, l, new, m, area) {
         return Parting::Appends;
     }
-    let depth = go_down(old, l, new, m, path);
+    let depth = go_down(old, l, new, m, area, path);
     Parting::Apart { depth }
 }
 
 // The answer where the old table is good.
-fn after_old(old: &[u8], l: Layout, new: &[u8], path: &mut [u64; ROOM]) -> Parting
+fn after_old(old: &[u8], l: Layout, new: &[u8], area: &mut [u8], path: &mut [u64; ROOM]) -> Parting
     requires { ⌜ checkOf (now old) ≡ Good l ⌝ }
-    ensures { λ r. ⌜ Parts (parted (now (old .entry)) (now (new .entry))) (now (path .entry)) r (now (path .exit)) ⌝ }
+    requires { ⌜ areaBytes ≤ length (now area) ⌝ }
+    ensures { λ r. ⌜ Parts (partedWithin (now (old .entry)) (now (new .entry))) (now (path .entry)) r (now (path .exit)) ⌝ }
 {
     match table::check(new) {
         Checked::Bad { why, place } => Parting::Refused {
@@ -109,13 +136,14 @@ fn after_old(old: &[u8], l: Layout, new: &[u8], path: &mut [u64; ROOM]) -> Parti
             why,
             place,
         },
-        Checked::Good { layout } => of_good(old, l, new, layout, path),
+        Checked::Good { layout } => of_good(old, l, new, layout, area, path),
     }
 }
 
-// Where the new table parts from the old one: the positions from the roots down stand in the path's first words, and no other word changes; none where the new one only appends, or one of them is not good.
-pub fn find(old: &[u8], new: &[u8], path: &mut [u64; ROOM]) -> Parting
-    ensures { λ r. ⌜ Parts (parted (now (old .entry)) (now (new .entry))) (now (path .entry)) r (now (path .exit)) ⌝ }
+// The answer where the work area is long enough.
+fn find_within(old: &[u8], new: &[u8], area: &mut [u8], path: &mut [u64; ROOM]) -> Parting
+    requires { ⌜ areaBytes ≤ length (now area) ⌝ }
+    ensures { λ r. ⌜ Parts (partedWithin (now (old .entry)) (now (new .entry))) (now (path .entry)) r (now (path .exit)) ⌝ }
 {
     match table::check(old) {
         Checked::Bad { why, place } => Parting::Refused {
@@ -123,6 +151,33 @@ pub fn find(old: &[u8], new: &[u8], path: &mut [u64; ROOM]) -> Parting
             why,
             place,
         },
-        Checked::Good { layout } => after_old(old, layout, new, path),
+        Checked::Good { layout } => after_old(old, layout, new, area, path),
     }
+}
+
+// The same in the area's first bytes, so many as it must have, which are cleared after it.
+fn find_and_clear(
+    old: &[u8],
+    new: &[u8],
+    area: &mut [u8],
+    size: usize,
+    path: &mut [u64; ROOM],
+) -> Parting
+    requires { ⌜ (areaBytes ≡ size) × (size ≤ length (now area)) ⌝ }
+    ensures { λ r. ⌜ Finds (now (old .entry)) (now (new .entry)) (now (area .entry)) (now (path .entry)) r (now (area .exit)) (now (path .exit)) ⌝ }
+{
+    let answer = find_within(old, new, &mut area[0..size], path);
+    append::clear(&mut area[0..size]);
+    answer
+}
+
+// Where the new table parts from the old one: the positions from the roots down stand in the path's first words, and no other word changes; none where the new one only appends, or one of them is not good.
+// The work area is that of the append question, and comes back as from there.
+pub fn find(old: &[u8], new: &[u8], area: &mut [u8], path: &mut [u64; ROOM]) -> Parting
+    ensures { λ r. ⌜ Finds (now (old .entry)) (now (new .entry)) (now (area .entry)) (now (path .entry)) r (now (area .exit)) (now (path .exit)) ⌝ }
+{
+    if append::AREA <= area.len() {
+        return find_and_clear(old, new, area, append::AREA, path);
+    }
+    Parting::ShortArea
 }

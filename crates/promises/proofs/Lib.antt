@@ -1,4 +1,5 @@
 -- The proofs of what specs/ states.
+pub mod Tables
 pub mod Told
 pub mod ShapeReads
 pub mod Begin

@@ -6,6 +6,7 @@ use mathlib.Core.List.{List, _++_}
 use mathlib.Core.Option.{some}
 use Prim.Native.Nat.{ℕ}
 use native.Mathlib.Omega.{arith}
+use lib.ListN.{length}
 use Rattle.wire.specs.declared.Refusal.{Refusal}
 use Rattle.wire.specs.declared.Layout.{Layout}
 use Rattle.wire.specs.declared.Checked.{Checked}
@@ -16,8 +17,10 @@ use Rattle.wire.specs.Table.{check, shapeOf}
 use Rattle.wire.specs.Values.{Entry, Told, kept, lacks, short, tell, Value, Valued, whole, tooShort, values}
 use Rattle.wire.specs.Reading.{Spot, Outcome, reached, refused, Run}
 use Rattle.wire.specs.Append.{appends}
-use Rattle.wire.specs.Answers.{roomOf, readBy, reads, askBy, asks}
-use Rattle.promises.specs.OldNew.{AppendsTo, YesExactly, OldMakes, same, unknown, OldReads, OldTableReads}
+use Rattle.wire.specs.Answers.{roomOf, readBy, reads, areaBytes, askBy, asks}
+use Rattle.laws.proofs.Splits.{by-lt}
+use Rattle.laws.proofs.Areas.{length-zeroed, zeroed-at, zeroed-behind, area-short, area-long, asks-short, asks-long}
+use Rattle.promises.specs.OldNew.{AppendsTo, YesExactly, ShortAreas, HandedBack, OldMakes, same, unknown, OldReads, OldTableReads}
 use Rattle.promises.specs.Shapes.{seen, OldValues, all-kept, cut}
 use Rattle.promises.specs.Telling.{over}
 use Rattle.promises.proofs.ShapeValues.{shape-old-reads-within, shape-never-another}
@@ -27,8 +30,9 @@ use Rattle.promises.proofs.Told.{tells-all}
 -- ---- yes
 
 -- two good tables are asked by their shapes
-says : (old new : List ℕ) {l m : Layout} → check old ≡ Good l → check new ≡ Good m → asks old new ≡ Says (appends (shapeOf old l) (shapeOf new m))
-unfolding asks askBy
+says : (old new : List ℕ) {l m : Layout} → check old ≡ Good l → check new ≡ Good m
+    → askBy (check old) (check new) old new ≡ Says (appends (shapeOf old l) (shapeOf new m))
+unfolding askBy
 says old new goodOld goodNew = rw (goodOld, goodNew)
 
 -- a yes is of two good tables
@@ -38,9 +42,16 @@ both-good (Good l) (Good m) old new e = (l, m, refl, refl)
 both-good (Good l) (Bad w i) old new e = let z : _≡_ {A = ℕ} 0 1 = cc in absurd (omega arith)
 both-good (Bad w i) d old new e = let z : _≡_ {A = ℕ} 0 1 = cc in absurd (omega arith)
 
-yes-appends : (old new : List ℕ) → asks old new ≡ Says true → AppendsTo old new
-unfolding asks
-yes-appends old new y =
+-- and with an area that is long enough
+yes-long : (old new area : List ℕ) → asks old new area ≡ Says true → askBy (check old) (check new) old new ≡ Says true
+yes-long old new area y =
+    by-lt (length area) areaBytes
+    (λ h. let e = sym (asks-short area old new h) ∙ y in let z : _≡_ {A = ℕ} 0 1 = cc in absurd (omega arith))
+    (λ h. sym (asks-long area old new h) ∙ y)
+
+yes-appends : (old new area : List ℕ) → asks old new area ≡ Says true → AppendsTo old new
+yes-appends old new area says-yes =
+    let y = yes-long old new area says-yes in
     let (l, m, goodOld, goodNew) = both-good (check old) (check new) old new y in
     let answer = says old new goodOld goodNew in
     record {
@@ -52,7 +63,22 @@ yes-appends old new y =
     }
 
 pub yes-exactly : YesExactly
-yes-exactly old new = (yes-appends old new, λ a. says old new (a .goodOld) (a .goodNew) ∙ ap Says (shape-yes-exactly _ _ .1 (a .appends)))
+yes-exactly old new area h = (
+  yes-appends old new area,
+  λ a. asks-long area old new h ∙ says old new (a .goodOld) (a .goodNew) ∙ ap Says (shape-yes-exactly _ _ .1 (a .appends)),
+)
+
+-- ---- the work area
+
+pub short-areas : ShortAreas
+short-areas old new area h = (asks-short area old new h, area-short area h)
+
+pub handed-back : HandedBack
+handed-back area h = rw (area-long area h) (record {
+  zeros = λ i b. zeroed-at areaBytes area i b;
+  behind = zeroed-behind areaBytes area;
+  as-long = length-zeroed areaBytes area h;
+})
 
 -- ---- the old table's reading
 
@@ -85,8 +111,8 @@ module _ (t : Shape) (message : List ℕ) (end : ℕ) (es : List Entry) (vs : Li
 -- either way of reading
 pub old-reads-by : (strict : Bool) → OldReads (λ table message store. readBy strict (check table) table (roomOf store) message)
 unfolding readBy
-old-reads-by strict old new y message store es end h =
-    let a = yes-appends old new y in
+old-reads-by strict old new area y message store es end h =
+    let a = yes-appends old new area y in
     let h = rw (a .goodNew) at h in
     let sees = shape-old-reads-within strict _ _ (a .appends) (roomOf store) message es end h in
     let (vs, are, olds) = shape-never-another strict _ _ (a .appends) (roomOf store) message es end h in (

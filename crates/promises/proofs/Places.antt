@@ -207,5 +207,5 @@ kept-front store (same ts appended us more told split are front) = rw split (sam
 kept-front store (unknown ts e behind us more told split are front) = rw split (same-front (entries ts) (e ∷ behind) store)
 
 pub same-places : SamePlaces
-same-places old new y message store es end h =
-    let (l, m, goodOld, goodNew, vs, are, makes) = old-table-reads old new y message store es end h in kept-front store makes
+same-places old new area y message store es end h =
+    let (l, m, goodOld, goodNew, vs, are, makes) = old-table-reads old new area y message store es end h in kept-front store makes

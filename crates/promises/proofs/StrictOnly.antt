@@ -17,7 +17,7 @@ use Rattle.wire.specs.declared.Item.{Item}
 use Rattle.wire.specs.declared.Item.the-variants.{Took, Refused}
 use Rattle.wire.specs.Tests.{both}
 use Rattle.wire.specs.Shape.{Width, w32, w64, Plain, bool, i8, u8, f32, f64, char, unit, int, fixed, Content, Kind, plain, pooled, option, sequence, map, struct, enum}
-use Rattle.wire.specs.Table.{goodTrailer, layoutAt, nodeAt, recordOf, goodNode, checkFrom, checkAt, check, shapeOf}
+use Rattle.wire.specs.Table.{TableForm, sizeOf, tableForm, endingAt, goodTrailer, goodIn, checkFrom, checkAt, checkAs, check, shapeOf}
 use Rattle.wire.specs.Numbers.{most, last, low, varintF, varint, onFirst, wordOf}
 use Rattle.wire.specs.Text.{utf8}
 use Rattle.wire.specs.Values.{Entry}
@@ -157,16 +157,20 @@ abbrev Tabled : Checked → Type 0
 Tabled (Good l) = Unit {0}
 Tabled (Bad why i) = refusalNumber why < 16
 
-tabled-from : (s : List ℕ) (l : Layout) (i left : ℕ) → Tabled (checkFrom s l i left)
+tabled-from : (form : TableForm) (s : List ℕ) (l : Layout) (i left : ℕ) → Tabled (checkFrom form s l i left)
 unfolding checkFrom
-tabled-from s l i zero = tt
-tabled-from s l i (suc left) = of-given Tabled (goodNode s l i (nodeAt s (recordOf l i))) _ _ (λ _. tabled-from s l (i + 1) left) (λ _. omega arith)
+tabled-from form s l i zero = tt
+tabled-from form s l i (suc left) = of-given Tabled (goodIn form s l i) _ _ (λ _. tabled-from form s l (i + 1) left) (λ _. omega arith)
+
+tabled-as : (form : TableForm) (s : List ℕ) → Tabled (checkAs form s)
+unfolding checkAs checkAt
+tabled-as form s =
+    of-given Tabled (leb (sizeOf form) (length s)) _ _
+    (λ _. of-given Tabled (goodTrailer form (endingAt form s (length s - sizeOf form)) (length s - sizeOf form)) _ _ (λ _. tabled-from form s _ 0 _) (λ _. omega arith)) (λ _. omega arith)
 
 tabled : (s : List ℕ) → Tabled (check s)
-unfolding check checkAt
-tabled s =
-    of-given Tabled (leb 10 (length s)) _ _
-    (λ _. of-given Tabled (goodTrailer s (length s - 10)) _ _ (λ _. tabled-from s (layoutAt s (length s - 10)) 0 _) (λ _. omega arith)) (λ _. omega arith)
+unfolding check
+tabled s = tabled-as (tableForm s) s
 
 reads-below : (table message store : List ℕ) → Ends (reads table message store .ends)
 unfolding reads

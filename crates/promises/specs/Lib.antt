@@ -1,4 +1,5 @@
--- What the demands promise of the public answers: of a new table beside an old one, of the entries' places, of what is written and read back and when it comes back byte for byte, of the rest, of a skim, and of a strict reading.
+-- What the demands promise of the public answers: of tables of both forms, of a new table beside an old one, of the entries' places, of what is written and read back and when it comes back byte for byte, of the rest, of a skim, and of a strict reading.
+pub mod Tables
 pub mod OldNew
 pub mod Places
 pub mod RoundTrip

@@ -1,21 +1,21 @@
--- Demand 3: what the append question's yes is, and what it promises of the messages that a new table reads.
+-- Demand 3: what the append question's yes is, how its work area is handed back, and what a yes promises of the messages that a new table reads.
 -- Assumes nothing.
 use mathlib.Core.Path.{_≡_}
 use mathlib.Core.Bool.{true}
 use mathlib.Core.List.{List, _∷_, _++_, map}
 use mathlib.Core.Logic.{_↔_}
-use Prim.Native.Nat.{ℕ}
-use lib.ListN.{drop}
+use Prim.Native.Nat.{ℕ, _<_, _≤_}
+use lib.ListN.{length, getD, drop}
 use Rattle.wire.specs.declared.Refusal.the-variants.{Variant}
 use Rattle.wire.specs.declared.Layout.{Layout}
 use Rattle.wire.specs.declared.Checked.the-variants.{Good}
-use Rattle.wire.specs.declared.AskAnswer.the-variants.{Says}
+use Rattle.wire.specs.declared.AskAnswer.the-variants.{Says, ShortArea}
 use Rattle.wire.specs.Shape.{Shape}
 use Rattle.wire.specs.Table.{check, shapeOf}
 use Rattle.wire.specs.Values.{Entry, Tag, kept, lacks, tell, Value, whole, tooShort, values}
 use Rattle.wire.specs.Reading.{Spot, reached, refused, Run}
 use Rattle.wire.specs.Append.{Appends}
-use Rattle.wire.specs.Answers.{reads, asks}
+use Rattle.wire.specs.Answers.{reads, areaBytes, asks, areaAfter}
 use Rattle.laws.specs.Bounds.{start}
 
 -- Both tables are good, and the new one appends to the old one.
@@ -26,9 +26,23 @@ pub record AppendsTo (old new : List ℕ) : Type 0 where
   pub goodNew : check new ≡ Good newLayout
   pub appends : Appends (shapeOf old oldLayout) (shapeOf new newLayout)
 
--- The answer is yes exactly if so.
+-- The answer is yes exactly if so, for every work area that is long enough, whatever it held.
 abbrev pub YesExactly : Type 0
-YesExactly = (old new : List ℕ) → (asks old new ≡ Says true) ↔ AppendsTo old new
+YesExactly = (old new area : List ℕ) → areaBytes ≤ length area → (asks old new area ≡ Says true) ↔ AppendsTo old new
+
+-- A shorter area is refused, whatever the tables are, and is unchanged.
+abbrev pub ShortAreas : Type 0
+ShortAreas = (old new area : List ℕ) → length area < areaBytes → (asks old new area ≡ ShortArea) × (areaAfter area ≡ area)
+
+-- A work area of so many bytes that are all zero, with every later byte as before.
+pub record Handed (area left : List ℕ) : Type 0 where
+  pub zeros : (i : ℕ) → i < areaBytes → getD left i 0 ≡ 0
+  pub behind : drop areaBytes left ≡ drop areaBytes area
+  pub as-long : length left ≡ length area
+
+-- Any other area is handed back so.
+abbrev pub HandedBack : Type 0
+HandedBack = (area : List ℕ) → areaBytes ≤ length area → Handed area (areaAfter area)
 
 -- The entries that were told apart as a value's.
 unfoldable pub entries : List Tag → List Entry
@@ -50,7 +64,7 @@ pub data OldMakes (t : Shape) (message : List ℕ) (end : ℕ) (es : List Entry)
 -- the rest being all bytes behind those values; or, exactly if a kept enum item has a variant that the old table lacks,
 -- it is refused as unknown variant at the first such item. Never a different value.
 abbrev pub OldReads : (reads : (table message store : List ℕ) → Run) → Type 0
-OldReads reads = (old new : List ℕ) → asks old new ≡ Says true → (message store : List ℕ) (es : List Entry) (end : Spot)
+OldReads reads = (old new area : List ℕ) → asks old new area ≡ Says true → (message store : List ℕ) (es : List Entry) (end : Spot)
     → reads new message store ≡ record { made = es; ends = reached end }
     → (l m : Layout) × (check old ≡ Good l) × (check new ≡ Good m) × (vs : List Value) × (values (shapeOf new m) message es ≡ whole vs)
     × OldMakes (shapeOf old l) message (end .place) es vs (reads old message store)

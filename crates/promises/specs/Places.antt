@@ -47,7 +47,7 @@ pub record SameFront (kept es : List Entry) (store : List ℕ) : Type 0 where
 -- Kept items have the same places under both tables: if the new table appends to the old one,
 -- then of a message that the new one reads fully, the old one stores what the new one stores in front.
 abbrev pub SamePlaces : Type 0
-SamePlaces = (old new : List ℕ) → asks old new ≡ Says true → (message store : List ℕ) (es : List Entry) (end : Spot)
+SamePlaces = (old new area : List ℕ) → asks old new area ≡ Says true → (message store : List ℕ) (es : List Entry) (end : Spot)
     → reads new message store ≡ record { made = es; ends = reached end } → SameFront (reads old message store .made) es store
 
 -- ---- in bytes that were written

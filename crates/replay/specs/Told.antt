@@ -5,7 +5,7 @@ use Prim.Native.Nat.{ℕ}
 use Rattle.wire.specs.declared.ReadAnswer.{ReadAnswer}
 use Rattle.wire.specs.declared.ReadAnswer.the-variants.{Done as Read, Refused as NotRead}
 use Rattle.wire.specs.declared.AskAnswer.{AskAnswer}
-use Rattle.wire.specs.declared.AskAnswer.the-variants.{Says, Refused as NotAsked}
+use Rattle.wire.specs.declared.AskAnswer.the-variants.{Says, Refused as NotAsked, ShortArea}
 use Rattle.wire.specs.Answers.{sideNumber, yesNumber, Numbered}
 use Rattle.replay.specs.declared.compare.Told.{Told}
 
@@ -20,7 +20,8 @@ unfoldable pub made : ReadAnswer → ℕ
 made (Read p n) = n
 made (NotRead e p n) = n
 
--- 1 for yes, 0 for no; on a refusal 0 for the old table, 1 for the new one
+-- 1 for yes, 0 for no; on a refusal 0 for the old table, 1 for the new one; 0 for a short work area
 unfoldable pub which : AskAnswer → ℕ
 which (Says y) = yesNumber y
 which (NotAsked t e i) = sideNumber t
+which ShortArea = 0

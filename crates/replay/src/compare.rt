@@ -21,6 +21,9 @@ const BEFORE: u64 = 11936128518282651045;
 
 const BEFORE_BYTE: u8 = 165;
 
+// How many bytes are lent behind the work area.
+const BEHIND: usize = 4096;
+
 pub enum Kind {
     Read,
     ReadStrict,
@@ -43,7 +46,7 @@ pub fn fields(kind: Kind) -> usize {
         Kind::Read => 8,
         Kind::ReadStrict => 8,
         Kind::Write => 8,
-        Kind::Append => 5,
+        Kind::Append => 6,
         Kind::Feed => 10,
         Kind::Take => 8,
     }
@@ -179,12 +182,66 @@ fn ask_told(answer: AskAnswer) -> Told
             second: place as u64,
             third: numbers::side(side),
         },
+        AskAnswer::ShortArea => Told {
+            number: numbers::SHORT_AREA,
+            second: 0,
+            third: 0,
+        },
     }
 }
 
+// The append question's work area with some bytes behind it, as they stand before a call.
+fn work_area() -> [u8; append::AREA + BEHIND] {
+    [BEFORE_BYTE; append::AREA + BEHIND]
+}
+
+// Whether all bytes are the same.
+fn is_all(part: &[u8], byte: u8) -> bool {
+    let mut others = 0u8;
+    let mut i = 0;
+    while i < part.len() {
+        others = others | (part[i] ^ byte);
+        i = i + 1;
+    }
+    others == 0
+}
+
+// How many bytes in front of an area of such a length must be handed back as zeros.
+fn zeros_of(len: usize) -> usize {
+    if len < append::AREA {
+        return 0;
+    }
+    append::AREA
+}
+
+// Whether so many bytes in front are zero, and all others as they were.
+fn is_handed_back(area: &[u8], zeros: usize) -> bool {
+    if area.len() < zeros {
+        return false;
+    }
+    is_all(&area[..zeros], 0) && is_all(&area[zeros..], BEFORE_BYTE)
+}
+
+// Asks in a work area of the record's length, the front of this one.
+fn ask_within(record: &[u8], area: &mut [u8]) -> bool {
+    let len = field::number_at(record, 5) as usize;
+    if area.len() < len {
+        return false;
+    }
+    let answer = append::appends(
+        field::part(record, 3),
+        field::part(record, 4),
+        &mut area[..len],
+    );
+    if !tells(record, ask_told(answer)) {
+        return false;
+    }
+    is_handed_back(area, zeros_of(len))
+}
+
 fn ask_agrees(record: &[u8]) -> bool {
-    let answer = append::appends(field::part(record, 3), field::part(record, 4));
-    tells(record, ask_told(answer))
+    let mut area = work_area();
+    ask_within(record, &mut area)
 }
 
 // ---- the accumulator

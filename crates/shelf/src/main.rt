@@ -69,7 +69,7 @@ fn words_of(verb: Verb) -> usize {
 
 // shelf append OLD NEW, with the old table.
 fn run_on_new(old: &[u8]) {
-    let mut room = io::large_buffer();
+    let mut room = files::large_room();
     let loaded = files::load(3, &mut room);
     let whole = loaded.whole;
     let len = loaded.len;
@@ -96,7 +96,7 @@ fn run_on_file(verb: Verb, table: &[u8]) {
 
 // A command that names a table first.
 fn run_on_table(verb: Verb) {
-    let mut room = io::large_buffer();
+    let mut room = files::large_room();
     let loaded = files::load(2, &mut room);
     let whole = loaded.whole;
     let len = loaded.len;

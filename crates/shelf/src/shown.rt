@@ -20,12 +20,19 @@ pub fn read_strictly(table: &[u8], message: &[u8]) {
     listing::entries::show_strictly(table, message, &store, strict, plain, rest);
 }
 
+// The append question's work area.
+fn work_area() -> [u8; append::AREA] {
+    [0; append::AREA]
+}
+
 // Asks whether a new table only appends to an old one.
 pub fn ask(old: &[u8], new: &[u8]) {
+    let mut area = work_area();
     let mut path = [0u64; 256];
-    match parting::find(old, new, &mut path) {
+    match parting::find(old, new, &mut area, &mut path) {
         Parting::Appends => say(b"yes: the new table only appends to the old one.\n"),
         Parting::Apart { depth } => listing::apart::show(old, new, &path, depth),
         Parting::Refused { side, why, place } => listing::apart::show_bad(side, why, place),
+        Parting::ShortArea => say(b"the work area is too short.\n"),
     }
 }

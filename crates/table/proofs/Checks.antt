@@ -1,19 +1,20 @@
 -- The check's tests, by what the code finds: of a node, of its children's numbers, of the nodes one after the other, and of the whole.
 -- Assumes nothing.
-use mathlib.Core.Path.{_≡_, refl, ap}
+use mathlib.Core.Path.{_≡_, refl, sym, ap, _∙_}
 use mathlib.Core.Bool.{Bool, true, false}
 use mathlib.Core.List.{List}
-use Prim.Native.Nat.{ℕ, zero, suc, _+_, _-_, _<_, _≤_}
+use Prim.Native.Nat.{ℕ, suc, _+_, _-_, _<_, _≤_}
 use native.Mathlib.Omega.{arith}
 use lib.Dec.{ltb}
 use lib.ListN.{length, getD}
-use borrow.Author.Tests.{ne-eqb, le-leb, lt-leb, lt-ltb, le-ltb}
+use borrow.Author.Tests.{eqb-true, eq-eqb, ne-eqb, le-leb, lt-leb, lt-ltb, le-ltb}
 use Rattle.wire.specs.declared.Refusal.the-variants.{Trailer, Record}
+use Rattle.wire.specs.declared.Ending.{Ending}
 use Rattle.wire.specs.declared.Layout.{Layout}
 use Rattle.wire.specs.declared.Checked.the-variants.{Good, Bad}
 use Rattle.wire.specs.Tests.{pick, given, both}
-use Rattle.wire.specs.Table.{u16At, layoutAt, goodTrailer, kinds, isKind, kindOf, nodeAt, recordOf, below, goodKind, goodNode, checkFrom, checkAt, check}
-use Rattle.laws.proofs.Splits.{by-eq}
+use Rattle.wire.specs.Table.{u16At, TableForm, first, second, sizeOf, markOf, tableForm, endingAt, layoutAt, goodTrailer, kinds, isKind, kindOf, nodeAt, recordOf, below, goodKind, goodNode, chainOf, shortChain, goodIn, checkFrom, checkAt, checkAs, check}
+use Rattle.laws.proofs.Splits.{by-le, by-eq, both-left}
 use Rattle.table.specs.Parts.{badAt}
 
 -- ---- a node
@@ -73,22 +74,37 @@ module _ (s : List ℕ) (i at left : ℕ) where
 
 -- ---- the nodes
 
-module _ (s : List ℕ) (l : Layout) (i left : ℕ) where
-  pub from-none : left ≤ 0 → Good l ≡ checkFrom s l i left
+module _ (form : TableForm) (s : List ℕ) (l : Layout) (i left : ℕ) where
+  pub from-none : left ≤ 0 → Good l ≡ checkFrom form s l i left
   unfolding checkFrom
   from-none h = let e : left ≡ 0 = omega arith in rw e
 
-  next : 0 < left → checkFrom s l i left ≡ given (goodNode s l i (nodeAt s (recordOf l i))) (λ _. checkFrom s l (i + 1) (left - 1)) (Bad Record i)
+  next : 0 < left → checkFrom form s l i left ≡ given (goodIn form s l i) (λ _. checkFrom form s l (i + 1) (left - 1)) (Bad Record i)
   unfolding checkFrom
-  next h = let e : left ≡ suc (left - 1) = omega arith in ap (checkFrom s l i) e
+  next h = let e : left ≡ suc (left - 1) = omega arith in ap (checkFrom form s l i) e
 
-  pub from-no : 0 < left → false ≡ goodNode s l i (nodeAt s (recordOf l i)) → Bad Record i ≡ checkFrom s l i left
+  pub from-no : 0 < left → false ≡ goodIn form s l i → Bad Record i ≡ checkFrom form s l i left
   unfolding given
   from-no h e = rw (next h, ← e)
 
-  pub from-next : 0 < left → true ≡ goodNode s l i (nodeAt s (recordOf l i)) → checkFrom s l i left ≡ checkFrom s l (i + 1) (left - 1)
+  pub from-next : 0 < left → true ≡ goodIn form s l i → checkFrom form s l i left ≡ checkFrom form s l (i + 1) (left - 1)
   unfolding given
   from-next h e = rw (next h, ← e)
+
+-- in the second form the chain is looked at where the record is good
+module _ (s : List ℕ) (l : Layout) (i : ℕ) where
+  pub second-bad : false ≡ goodNode s l i (nodeAt s (recordOf l i)) → false ≡ goodIn second s l i
+  unfolding goodIn given
+  second-bad e = rw (← e)
+
+  module _ (e : true ≡ goodNode s l i (nodeAt s (recordOf l i))) where
+    pub second-long : 256 < chainOf s l i → false ≡ goodIn second s l i
+    unfolding goodIn given shortChain
+    second-long h = rw (← e, lt-leb (chainOf s l i) 256 h)
+
+    pub second-good : chainOf s l i ≤ 256 → true ≡ goodIn second s l i
+    unfolding goodIn given shortChain
+    second-good h = rw (← e, le-leb (chainOf s l i) 256 h)
 
 module _ (l : Layout) (i : ℕ) where
   pub bad-node : i < l .nodes → Bad Record i ≡ badAt l i
@@ -101,16 +117,51 @@ module _ (l : Layout) (i : ℕ) where
 
 -- ---- the whole
 
+module _ (form : TableForm) (s : List ℕ) where
+  pub check-short : length s < sizeOf form → Bad Trailer 0 ≡ checkAs form s
+  unfolding checkAs given
+  check-short h = rw (lt-leb (sizeOf form) (length s) h)
+
+  -- a trailer that is read
+  module _ (end : ℕ) (h : end + sizeOf form ≡ length s) (t : Ending) (e : t ≡ endingAt form s end) where
+    at : checkAs form s ≡ checkAt form s t end
+    unfolding checkAs given
+    at = let here : length s - sizeOf form ≡ end = omega arith in rw (le-leb (sizeOf form) (length s) (omega arith), here, e)
+
+    pub check-bad : false ≡ goodTrailer form t end → Bad Trailer 0 ≡ checkAs form s
+    unfolding checkAt given
+    check-bad g = rw (at, ← g)
+
+    pub check-good : true ≡ goodTrailer form t end → checkFrom form s (layoutAt t end) 0 (layoutAt t end .nodes) ≡ checkAs form s
+    unfolding checkAt given layoutAt
+    check-good g = rw (at, ← g)
+
 module _ (s : List ℕ) where
-  pub check-short : length s < 10 → Bad Trailer 0 ≡ check s
-  unfolding check given
-  check-short h = rw (lt-leb 10 (length s) h)
+  check-first : (u16At s (length s - 2) ≡ 0x5057 → ⊥) → checkAs first s ≡ check s
+  unfolding check tableForm markOf pick
+  check-first h = rw (ne-eqb (u16At s (length s - 2)) 0x5057 h)
 
-  module _ (h : 10 ≤ length s) where
-    pub check-bad : false ≡ goodTrailer s (length s - 10) → Bad Trailer 0 ≡ check s
-    unfolding check checkAt given
-    check-bad e = rw (le-leb 10 (length s) h, ← e)
+  check-second : u16At s (length s - 2) ≡ 0x5057 → checkAs second s ≡ check s
+  unfolding check tableForm markOf pick
+  check-second h = rw (eq-eqb (u16At s (length s - 2)) 0x5057 h)
 
-    pub check-good : true ≡ goodTrailer s (length s - 10) → checkFrom s (layoutAt s (length s - 10)) 0 (layoutAt s (length s - 10) .nodes) ≡ check s
-    unfolding check checkAt given
-    check-good e = rw (le-leb 10 (length s) h, ← e)
+  -- a good trailer of the first form has its mark
+  pub first-good : (end : ℕ) → end + 10 ≡ length s → goodTrailer first (endingAt first s end) end ≡ true → checkAs first s ≡ check s
+  unfolding goodTrailer endingAt markOf
+  first-good end h g =
+      let here : length s - 2 ≡ end + 8 = omega arith in
+      let own = eqb-true (u16At s (end + 8)) 0x5053 (both-left _ _ g) in
+      check-first (λ m. let m′ = rw here at m in omega arith)
+
+  other-mark : (u16At s (length s - 2) ≡ 0x5057 → ⊥) → Bad Trailer 0 ≡ checkAs second s
+  unfolding checkAs checkAt goodTrailer endingAt sizeOf markOf given both
+  other-mark no-mark =
+      by-le 14 (length s)
+      (λ h.
+      let here : length s - 14 + 12 ≡ length s - 2 = omega arith in
+      rw (le-leb 14 (length s) h, here, ne-eqb (u16At s (length s - 2)) 0x5057 no-mark))
+      (λ h. rw (lt-leb 14 (length s) h))
+
+  -- what is no table of the first form is the second's, or no table
+  pub first-bad : Bad Trailer 0 ≡ checkAs first s → checkAs second s ≡ check s
+  first-bad e = by-eq (u16At s (length s - 2)) 0x5057 check-second (λ m. sym (other-mark m) ∙ e ∙ check-first m)

@@ -1,80 +1,59 @@
--- The trailer's test, by what the code finds: each of its numbers' tests in turn.
+-- A trailer's test, by what the code finds: each test in turn, of which the last decides.
 -- Assumes nothing.
-use mathlib.Core.Path.{_≡_, sym}
+use mathlib.Core.Path.{_≡_, refl, sym}
 use mathlib.Core.Bool.{true, false}
 use mathlib.Core.List.{List}
-use Prim.Native.Nat.{ℕ, _+_, _*_, _%_, _<_, _≤_}
+use Prim.Native.Nat.{ℕ, _≤_}
 use native.Mathlib.Omega.{arith}
 use lib.Dec.{leb}
 use lib.ListN.{length}
-use borrow.Author.Tests.{eqb-true, leb-true, ltb-true, eq-eqb, ne-eqb, le-leb, lt-ltb}
+use borrow.Author.Tests.{eqb-true, eq-eqb, le-leb, lt-leb}
+use Rattle.wire.specs.declared.Ending.{Ending}
 use Rattle.wire.specs.Tests.{both}
-use Rattle.wire.specs.Table.{u16At, layoutAt, goodNumbers, goodTrailer}
-use Rattle.laws.proofs.Splits.{by-test, both-left, both-right}
-use Rattle.table.specs.Parts.{Inside}
+use Rattle.wire.specs.Table.{TableForm, first, second, markOf, mostNodes, mostBytes, layoutAt, goodTrailer}
+use Rattle.laws.proofs.Splits.{by-test, by-le, both-left, both-right}
+use Rattle.laws.proofs.Trailers.{Numbers, numbers, numbers-good}
+use Rattle.table.specs.Parts.{Inside, fitting}
 
--- all that is tested but for the end
-pub record Numbers (nodes bytes c d n root : ℕ) : Type 0 where
-  pub some-nodes : 1 ≤ n
-  pub few-nodes : n ≤ nodes
-  pub rooted : root < n
-  pub even : c % 2 ≡ 0
-  pub few-bytes : c ≤ bytes
-  pub apart : d ≡ 6 * n + c
+module _ (t : Ending) (mark nodes bytes end : ℕ) where
+  abbrev Fits : Type 0
+  Fits = (t .mark ≡ mark) × Numbers nodes bytes (t .c) (t .d) (t .n) (t .root) end
 
-module _ (nodes bytes c d n root end : ℕ) where
-  numbers : goodNumbers nodes bytes c d n root end ≡ true → Numbers nodes bytes c d n root × (d ≤ end)
-  unfolding goodNumbers
-  numbers e =
-      let p = both-right _ _ e in
-      let q = both-right _ _ p in
-      let r = both-right _ _ q in (
-        record {
-          some-nodes = leb-true _ _ (both-left _ _ (both-left _ _ e));
-          few-nodes = leb-true _ _ (both-right _ _ (both-left _ _ e));
-          rooted = ltb-true _ _ (both-left _ _ p);
-          even = eqb-true _ _ (both-left _ _ (both-left _ _ q));
-          few-bytes = leb-true _ _ (both-right _ _ (both-left _ _ q));
-          apart = eqb-true _ _ (both-left _ _ r);
-        },
-        leb-true _ _ (both-right _ _ r),
-      )
+  fits : fitting t mark nodes bytes end ≡ true → Fits
+  unfolding fitting
+  fits e = (eqb-true _ _ (both-left _ _ e), numbers _ _ _ _ _ _ _ (both-right _ _ e))
 
-  pub numbers-yes : Numbers nodes bytes c d n root → leb d end ≡ goodNumbers nodes bytes c d n root end
-  unfolding goodNumbers both
-  numbers-yes t =
-      rw (
-        le-leb 1 n (t .some-nodes),
-        le-leb n nodes (t .few-nodes),
-        lt-ltb root n (t .rooted),
-        eq-eqb (c % 2) 0 (t .even),
-        le-leb c bytes (t .few-bytes),
-        eq-eqb d (6 * n + c) (t .apart),
-      )
+  pub fits-no : (Fits → ⊥) → false ≡ fitting t mark nodes bytes end
+  fits-no never = by-test (fitting t mark nodes bytes end) (λ e. absurd (never (fits e))) (λ e. sym e)
 
-  pub numbers-no : (Numbers nodes bytes c d n root → ⊥) → false ≡ goodNumbers nodes bytes c d n root end
-  numbers-no never = by-test (goodNumbers nodes bytes c d n root end) (λ e. absurd (never (numbers e .0))) (λ e. sym e)
+  pub fits-last : (t .d ≤ end → Fits) → leb (t .d) end ≡ fitting t mark nodes bytes end
+  unfolding fitting both
+  fits-last f =
+      by-le (t .d) end
+      (λ h. rw (le-leb (t .d) end h, eq-eqb (t .mark) mark (f h .0)) (sym (numbers-good _ _ _ _ _ _ _ (f h .1))))
+      (λ h. rw (lt-leb (t .d) end h) (fits-no (λ g. omega (arith, g .1 .inside))))
 
--- ---- in the table
+module _ (t : Ending) (end : ℕ) where
+  pub fits-first : fitting t 0x5053 256 2048 end ≡ goodTrailer first t end
+  unfolding fitting goodTrailer markOf mostNodes mostBytes
+  fits-first = refl
 
-module _ (s : List ℕ) (end : ℕ) where
-  pub marked : u16At s (end + 8) ≡ 0x5053
-      → goodNumbers 256 2048 (u16At s end) (u16At s (end + 2)) (u16At s (end + 4)) (u16At s (end + 6)) end ≡ goodTrailer s end
-  unfolding goodTrailer both
-  marked e = rw (eq-eqb (u16At s (end + 8)) 0x5053 e)
+  pub fits-second : fitting t 0x5057 4096 65536 end ≡ goodTrailer second t end
+  unfolding fitting goodTrailer markOf mostNodes mostBytes
+  fits-second = refl
 
-  pub unmarked : (u16At s (end + 8) ≡ 0x5053 → ⊥) → false ≡ goodTrailer s end
-  unfolding goodTrailer both
-  unmarked h = rw (ne-eqb (u16At s (end + 8)) 0x5053 h)
-
-  pub record Trailer : Type 0 where
-    pub numbers : Numbers 256 2048 (u16At s end) (u16At s (end + 2)) (u16At s (end + 4)) (u16At s (end + 6))
-    pub inside : u16At s (end + 2) ≤ end
-
-  pub trailer : goodTrailer s end ≡ true → Trailer
+module _ (form : TableForm) (t : Ending) (end : ℕ) (e : goodTrailer form t end ≡ true) where
+  good : Numbers (mostNodes form) (mostBytes form) (t .c) (t .d) (t .n) (t .root) end
   unfolding goodTrailer
-  trailer e = let t = numbers _ _ _ _ _ _ _ (both-right _ _ e) in record { numbers = t .0; inside = t .1 }
+  good = numbers _ _ _ _ _ _ _ (both-right _ _ e)
 
-  pub layout-inside : end + 10 ≡ length s → goodTrailer s end ≡ true → Inside s (layoutAt s end)
+  pub inside : (t .c ≤ end) × (t .d ≤ end)
+  inside = (omega (arith, good .apart, good .inside), good .inside)
+
+  pub layout-inside : (s : List ℕ) → end ≤ length s → Inside s (layoutAt t end)
   unfolding layoutAt
-  layout-inside h e = let t = trailer e in record { records = omega (arith, t .numbers); children = omega (arith, t .numbers) }
+  layout-inside s h = record { records = omega (arith, good .apart, good .inside); children = omega (arith, good .apart, good .inside) }
+
+  pub layout-few : layoutAt t end .nodes ≤ mostNodes form
+  unfolding layoutAt
+  layout-few = good .few-nodes

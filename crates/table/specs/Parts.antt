@@ -4,16 +4,17 @@ use mathlib.Core.Path.{_≡_}
 use mathlib.Core.Bool.{Bool, true, false}
 use mathlib.Core.List.{List}
 use Prim.Native.Nat.{ℕ, _+_, _*_, _≤_, _<_}
-use lib.ListN.{length}
-use lib.Dec.{ltb, leb}
+use lib.ListN.{length, getD}
+use lib.Dec.{eqb, ltb, leb}
 use Rattle.wire.specs.declared.Refusal.the-variants.{Record}
+use Rattle.wire.specs.declared.Ending.{Ending}
 use Rattle.wire.specs.declared.Layout.{Layout}
 use Rattle.wire.specs.declared.Checked.{Checked}
 use Rattle.wire.specs.declared.Checked.the-variants.{Good, Bad}
 use Rattle.wire.specs.Tests.{pick, both}
 use Rattle.wire.specs.Shape.{struct}
 use Rattle.wire.specs.Walk.{Follow, each, only, Walk, Step, times, walk}
-use Rattle.wire.specs.Table.{u16At, Node, nodeAt, recordOf, below, shapesAt}
+use Rattle.wire.specs.Table.{u16At, goodNumbers, Node, nodeAt, recordOf, below, shapesAt}
 use Rattle.laws.specs.Steps.{row}
 use Rattle.laws.specs.Tables.{nodeKind, nodeFirst, nodeCount, nodeShape}
 use Rattle.table.specs.declared.Stretch.{Stretch}
@@ -24,9 +25,22 @@ pub record Inside (s : List ℕ) (l : Layout) : Type 0 where
   pub records : l .records + 6 * l .nodes ≤ l .children
   pub children : l .children + 2 * l .places ≤ length s
 
+-- numbers as a trailer holds them, so that no sum of them leaves a word
+pub record Small (t : Ending) : Type 0 where
+  pub c : t .c < 4294967296
+  pub n : t .n < 65536
+
+-- a trailer has the mark, and numbers for so many nodes and bytes of child list
+unfoldable pub fitting : Ending → (mark nodes bytes end : ℕ) → Bool
+fitting t mark nodes bytes end = both (eqb (t .mark) mark) (goodNumbers nodes bytes (t .c) (t .d) (t .n) (t .root) end)
+
 -- b places from the a-th on are in the child list, and their numbers are below i
 unfoldable pub listed : List ℕ → Layout → (i a b : ℕ) → Bool
 listed s l i a b = both (leb (a + b) (l .places)) (below s i (l .children + 2 * a) b)
+
+-- a node's chain in a list of them
+abbrev pub chainAt : List ℕ → ℕ → ℕ
+chainAt chains i = getD chains i 0
 
 -- the check of nodes of which i is the first bad one, or none is where i is no node
 unfoldable pub badAt : Layout → ℕ → Checked

@@ -1,30 +1,51 @@
 // The schema table: its check, and how code goes through one that is good.
 use wire::Checked;
+use wire::Ending;
 use wire::Layout;
 use wire::Refusal;
 ghost use mathlib.Core.Path.{_≡_};
 ghost use mathlib.Core.Bool.{true};
-ghost use Prim.Native.Nat.{_+_, _*_, _^_, _<_, _≤_};
+ghost use Prim.Native.Nat.{max, _+_, _*_, _^_, _<_, _≤_};
 ghost use lib.ListN.{length};
 ghost use lib.Dec.{eqb, ltb, leb};
 ghost use Rattle.wire.specs.Tests.{pick, both};
 ghost use Rattle.wire.specs.Walk.{following, isKnown};
-ghost use Rattle.wire.specs.Table.{u16At, layoutAt, goodNumbers, goodTrailer, isKind, kindOf, recordOf, nodeAt, firstChild, childCount, goodKind, goodNode, checkFrom};
+ghost use Rattle.wire.specs.Table.{u16At, u32At, first as firstForm, second as secondForm, endingAt, layoutAt, isKind, kindOf, recordOf, nodeAt, firstChild, childCount, goodKind, goodNode, checkFrom, checkAs};
 ghost use Rattle.wire.specs.Table.{below as allBelow, check as checkOf};
 ghost use Rattle.laws.specs.KindRanges.{isInner};
 ghost use Rattle.laws.specs.Tables.{nodeFirst, nodeCount, GoodTable};
-ghost use Rattle.table.specs.Parts.{Inside, listed, badAt, followed, Falls, fieldsOf, Flat};
+ghost use Rattle.laws.specs.Chains.{longestAt, keptChain};
+ghost use Rattle.table.specs.Parts.{Inside, Small, fitting, listed, chainAt, badAt, followed, Falls, fieldsOf, Flat};
 
-// The trailer's bytes and a record's, the most nodes and bytes of child list, and the mark.
-const TRAILER: usize = 10;
+// Each form owns its trailer's bytes and its mark, and the most nodes and bytes of child list.
+struct First;
 
+struct Second;
+
+impl First {
+    const SIZE: usize = 10;
+
+    const MARK: usize = 0x5053;
+
+    const NODES: usize = 256;
+
+    const BYTES: usize = 2048;
+}
+
+impl Second {
+    const SIZE: usize = 14;
+
+    const MARK: usize = 0x5057;
+
+    const NODES: usize = 4096;
+
+    const BYTES: usize = 65536;
+}
+
+// A record's bytes, and the longest chain of children, a leaf counting 1.
 const RECORD: usize = 6;
 
-const NODES: usize = 256;
-
-const BYTES: usize = 2048;
-
-const MARK: usize = 0x5053;
+const LONGEST: usize = 256;
 
 // What follows an item: the `width` numbers that stand at `from` in the table, `rounds` times over.
 pub struct Stretch {
@@ -56,64 +77,90 @@ pub fn u16_at(table: &[u8], at: usize) -> usize
     low + 256 * high
 }
 
-// ---- the trailer
-
-// Whether the trailer's numbers are good, in a file of `end` bytes and the trailer.
-fn good_numbers(c: usize, d: usize, n: usize, root: usize, end: usize) -> bool
-    requires { ⌜ (c < 65536) × (n < 65536) ⌝ }
-    ensures { λ r. ⌜ r ≡ goodNumbers 256 2048 c d n root end ⌝ }
+fn u32_at(table: &[u8], at: usize) -> usize
+    requires { ⌜ at + 4 ≤ length (now table) ⌝ }
+    ensures { λ r. ⌜ (r ≡ u32At (now (table .entry)) at) × (r < 4294967296) ⌝ }
 {
-    if NODES < n {
-        return false;
-    }
-    // So there is a node.
-    if n <= root {
-        return false;
-    }
-    if c % 2 != 0 {
-        return false;
-    }
-    if BYTES < c {
-        return false;
-    }
-    if d != RECORD * n + c {
-        return false;
-    }
-    d <= end
+    let low = u16_at(table, at);
+    let high = u16_at(table, at + 2);
+    low + 65536 * high
 }
 
-fn good_trailer(table: &[u8], end: usize) -> bool
+// ---- the trailer
+
+fn first_ending(table: &[u8], end: usize) -> Ending
     requires { ⌜ end + 10 ≡ length (now table) ⌝ }
-    ensures { λ r. ⌜ r ≡ goodTrailer (now (table .entry)) end ⌝ }
+    ensures { λ r. ⌜ (r ≡ endingAt firstForm (now (table .entry)) end) × Small r ⌝ }
 {
     let c = u16_at(table, end);
     let d = u16_at(table, end + 2);
     let n = u16_at(table, end + 4);
     let root = u16_at(table, end + 6);
     let mark = u16_at(table, end + 8);
-    if mark == MARK {
-        return good_numbers(c, d, n, root, end);
+    Ending {
+        c,
+        d,
+        n,
+        root,
+        mark,
     }
-    false
 }
 
-fn layout_at(table: &[u8], end: usize) -> Layout
-    requires { ⌜ (end + 10 ≡ length (now table)) × (goodTrailer (now table) end ≡ true) ⌝ }
-    ensures { λ r. ⌜ r ≡ layoutAt (now (table .entry)) end ⌝ }
+fn second_ending(table: &[u8], end: usize) -> Ending
+    requires { ⌜ end + 14 ≡ length (now table) ⌝ }
+    ensures { λ r. ⌜ (r ≡ endingAt secondForm (now (table .entry)) end) × Small r ⌝ }
 {
-    let c = u16_at(table, end);
-    let d = u16_at(table, end + 2);
-    let nodes = u16_at(table, end + 4);
-    let root = u16_at(table, end + 6);
-    let records = end - d;
-    let children = end - c;
-    let places = c / 2;
-    Layout {
-        records,
-        children,
-        places,
-        nodes,
+    let c = u32_at(table, end);
+    let d = u32_at(table, end + 4);
+    let n = u16_at(table, end + 8);
+    let root = u16_at(table, end + 10);
+    let mark = u16_at(table, end + 12);
+    Ending {
+        c,
+        d,
+        n,
         root,
+        mark,
+    }
+}
+
+// Whether a trailer's mark and numbers are a form's, in a file of `end` bytes and the trailer.
+fn good_trailer(t: Ending, mark: usize, nodes: usize, bytes: usize, end: usize) -> bool
+    requires { ⌜ Small t ⌝ }
+    ensures { λ r. ⌜ r ≡ fitting t mark nodes bytes end ⌝ }
+{
+    if t.mark != mark {
+        return false;
+    }
+    if nodes < t.n {
+        return false;
+    }
+    // So there is a node.
+    if t.n <= t.root {
+        return false;
+    }
+    if t.c % 2 != 0 {
+        return false;
+    }
+    if bytes < t.c {
+        return false;
+    }
+    if t.d != RECORD * t.n + t.c {
+        return false;
+    }
+    t.d <= end
+}
+
+fn layout_at(t: Ending, end: usize) -> Layout
+    requires { ⌜ (t .c ≤ end) × (t .d ≤ end) ⌝ }
+    ensures { λ r. ⌜ r ≡ layoutAt t end ⌝ }
+{
+    Layout {
+        records: end - t.d,
+        children: end - t.c,
+        places: t.c / 2,
+        nodes: t.n,
+        root: t.root,
     }
 }
 
@@ -237,61 +284,7 @@ fn good_node(table: &[u8], l: Layout, i: usize, at: usize) -> bool
     false
 }
 
-// ---- the check
-
-// The first node that is not good, or how many there are: a number, since an answer made in a loop is kept in memory.
-fn first_bad(table: &[u8], l: Layout) -> usize
-    requires { ⌜ Inside (now table) l ⌝ }
-    ensures { λ r. ⌜ checkFrom (now (table .entry)) l 0 (l .nodes) ≡ badAt l r ⌝ }
-{
-    let mut i = 0;
-    let mut at = l.records;
-    while i < l.nodes {
-        if !good_node(table, l, i, at) {
-            return i;
-        }
-        i = i + 1;
-        at = at + RECORD;
-    }
-    i
-}
-
-fn check_nodes(table: &[u8], l: Layout) -> Checked
-    requires { ⌜ Inside (now table) l ⌝ }
-    ensures { λ r. ⌜ r ≡ checkFrom (now (table .entry)) l 0 (l .nodes) ⌝ }
-{
-    let bad = first_bad(table, l);
-    if bad < l.nodes {
-        return Checked::Bad {
-            why: Refusal::Record,
-            place: bad,
-        };
-    }
-    Checked::Good { layout: l }
-}
-
-// The table's layout if it is good; else why it is not, and the first node that is not.
-pub fn check(table: &[u8]) -> Checked
-    ensures { λ r. ⌜ r ≡ checkOf (now (table .entry)) ⌝ }
-{
-    let len = table.len();
-    if len < TRAILER {
-        return Checked::Bad {
-            why: Refusal::Trailer,
-            place: 0,
-        };
-    }
-    let end = len - TRAILER;
-    if good_trailer(table, end) {
-        return check_nodes(table, layout_at(table, end));
-    }
-    Checked::Bad {
-        why: Refusal::Trailer,
-        place: 0,
-    }
-}
-
-// ---- a good table's nodes
+// ---- chains of children
 
 // Where the numbers of a node's children begin.
 fn children_from(l: Layout, i: usize, number: u8, a: usize) -> usize
@@ -318,6 +311,172 @@ fn children_of(number: u8, b: usize) -> usize
         _ => 0,
     }
 }
+
+fn larger(a: u16, b: u16) -> u16
+    ensures { λ r. ⌜ r ≡ max a b ⌝ }
+{
+    if a < b {
+        return b;
+    }
+    a
+}
+
+// The longest chain of so many nodes whose numbers stand from an offset on.
+fn longest_of(table: &[u8], chains: &[u16], node: usize, from: usize, count: usize) -> u16
+    requires { ⌜ Falls (now table) from count node ⌝ }
+    requires { ⌜ node ≤ length (now chains) ⌝ }
+    ensures { λ r. ⌜ r ≡ longestAt (chainAt (now (chains .entry))) (now (table .entry)) from count ⌝ }
+{
+    let mut longest: u16 = 0;
+    let mut at = from;
+    let mut left = count;
+    while 0 < left {
+        let child = u16_at(table, at);
+        longest = larger(longest, chains[child]);
+        at = at + 2;
+        left = left - 1;
+    }
+    longest
+}
+
+// The chain of the node i, whose record is good and stands at an offset, by the chains of the nodes in front.
+fn chain_at(table: &[u8], l: Layout, chains: &[u16], i: usize, at: usize) -> usize
+    requires { ⌜ Inside (now table) l ⌝ }
+    requires { ⌜ (i < l .nodes) × (at ≡ recordOf l i) ⌝ }
+    requires { ⌜ goodNode (now table) l i (nodeAt (now table) (recordOf l i)) ≡ true ⌝ }
+    requires { ⌜ i ≤ length (now chains) ⌝ }
+    ensures { λ r. ⌜ r ≡ keptChain (now (table .entry)) l (now (chains .entry)) i (nodeAt (now (table .entry)) (recordOf l i)) ⌝ }
+{
+    let number = table[at];
+    let a = u16_at(table, at + 2);
+    let b = u16_at(table, at + 4);
+    let from = children_from(l, i, number, a);
+    let count = children_of(number, b);
+    let longest = longest_of(table, chains, i, from, count);
+    longest as usize + 1
+}
+
+// ---- the check
+
+// The first node that is not good, or how many there are: a number, since an answer made in a loop is kept in memory.
+fn first_bad(table: &[u8], l: Layout) -> usize
+    requires { ⌜ Inside (now table) l ⌝ }
+    ensures { λ r. ⌜ checkFrom firstForm (now (table .entry)) l 0 (l .nodes) ≡ badAt l r ⌝ }
+{
+    let mut i = 0;
+    let mut at = l.records;
+    while i < l.nodes {
+        if !good_node(table, l, i, at) {
+            return i;
+        }
+        i = i + 1;
+        at = at + RECORD;
+    }
+    i
+}
+
+// The same where a chain may be too long. The chains so far are kept, so that each is found from its children's.
+fn first_bad_or_long(table: &[u8], l: Layout, chains: &mut [u16]) -> usize
+    requires { ⌜ Inside (now table) l ⌝ }
+    requires { ⌜ l .nodes ≤ length (now chains) ⌝ }
+    ensures { λ r. ⌜ checkFrom secondForm (now (table .entry)) l 0 (l .nodes) ≡ badAt l r ⌝ }
+{
+    let mut i = 0;
+    let mut at = l.records;
+    while i < l.nodes {
+        if !good_node(table, l, i, at) {
+            return i;
+        }
+        let chain = chain_at(table, l, chains, i, at);
+        if LONGEST < chain {
+            return i;
+        }
+        chains[i] = chain as u16;
+        i = i + 1;
+        at = at + RECORD;
+    }
+    i
+}
+
+// The same, with room of its own for the chains: little for few nodes, so that a small table is not kept waiting until much is
+// cleared.
+fn second_bad(table: &[u8], l: Layout) -> usize
+    requires { ⌜ Inside (now table) l ⌝ }
+    requires { ⌜ l .nodes ≤ 4096 ⌝ }
+    ensures { λ r. ⌜ checkFrom secondForm (now (table .entry)) l 0 (l .nodes) ≡ badAt l r ⌝ }
+{
+    if l.nodes <= First::NODES {
+        let mut chains = [0u16; First::NODES];
+        return first_bad_or_long(table, l, &mut chains);
+    }
+    let mut chains = [0u16; Second::NODES];
+    first_bad_or_long(table, l, &mut chains)
+}
+
+// The answer by the first bad node.
+fn answer(l: Layout, bad: usize) -> Checked
+    ensures { λ r. ⌜ r ≡ badAt l bad ⌝ }
+{
+    if bad < l.nodes {
+        return Checked::Bad {
+            why: Refusal::Record,
+            place: bad,
+        };
+    }
+    Checked::Good { layout: l }
+}
+
+// A table of the second form.
+fn check_second(table: &[u8]) -> Checked
+    ensures { λ r. ⌜ r ≡ checkAs secondForm (now (table .entry)) ⌝ }
+{
+    let len = table.len();
+    if Second::SIZE <= len {
+        let end = len - Second::SIZE;
+        let t = second_ending(table, end);
+        if good_trailer(t, Second::MARK, Second::NODES, Second::BYTES, end) {
+            let l = layout_at(t, end);
+            let bad = second_bad(table, l);
+            return answer(l, bad);
+        }
+    }
+    Checked::Bad {
+        why: Refusal::Trailer,
+        place: 0,
+    }
+}
+
+// The same answer, made anew: one that a call left in memory then meets those of other arms in registers.
+fn anew(got: Checked) -> Checked
+    ensures { λ r. ⌜ r ≡ got ⌝ }
+{
+    let Checked::Good { layout } = got else {
+        return got;
+    };
+    Checked::Good { layout }
+}
+
+// The table's layout if it is good; else why it is not, and the first node that is not. What has no good trailer of the first
+// form is left to the second's check, by two calls: of one alone the compiler would make a part of this function, and every
+// check would pay for the array of chains.
+pub fn check(table: &[u8]) -> Checked
+    ensures { λ r. ⌜ r ≡ checkOf (now (table .entry)) ⌝ }
+{
+    let len = table.len();
+    if len < First::SIZE {
+        return anew(check_second(table));
+    }
+    let end = len - First::SIZE;
+    let t = first_ending(table, end);
+    if good_trailer(t, First::MARK, First::NODES, First::BYTES, end) {
+        let l = layout_at(t, end);
+        let bad = first_bad(table, l);
+        return answer(l, bad);
+    }
+    anew(check_second(table))
+}
+
+// ---- a good table's nodes
 
 // The number of a node's kind.
 pub fn kind_at(table: &[u8], l: Layout, i: usize) -> u8

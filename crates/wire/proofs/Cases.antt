@@ -2,8 +2,8 @@
 -- Assumes nothing.
 use mathlib.Core.Path.{_≡_, refl}
 use Rattle.wire.specs.Tests.{pick, given, both, decided}
-use Rattle.wire.specs.Shape.{bits, size, sameKind, count}
-use Rattle.wire.specs.Table.{u16At, layoutAt, goodNumbers, goodTrailer, kinds, isKind, kindOf, nodeAt, recordOf, firstChild, childCount, below, goodPlaces, goodKind, goodNode, checkFrom, checkAt, check, shapesAt, shapeBy, shapeF, shapeOf}
+use Rattle.wire.specs.Shape.{bits, size, sameKind, count, depth, deepest}
+use Rattle.wire.specs.Table.{u16At, u32At, sizeOf, markOf, mostNodes, mostBytes, tableForm, endingAt, layoutAt, goodNumbers, goodTrailer, kinds, isKind, kindOf, nodeAt, recordOf, firstChild, childCount, below, goodPlaces, goodKind, goodNode, shapesAt, shapeBy, shapeF, shapeOf, chainOf, shortChain, goodIn, checkFrom, checkAt, checkAs, check}
 use Rattle.wire.specs.Walk.{following, isKnown, all, times, nth, along, walk, walks}
 use Rattle.wire.specs.Values.{part, toldAfter, tellNothing, tellOn, tellThen, tellItem, tell, isPooled, valueOf, valued, values}
 use Rattle.wire.specs.Numbers.{most, last, low, varintF, varint, shortestF, shortest, signedWord, isSignedWord, zigzag, unzigzag, word, isWord, zigzagged, unzigzagged, onFirst, little, littleBytes, inOrder, wordOf}
@@ -12,12 +12,12 @@ use Rattle.wire.specs.Reading.{flag, counted, charOf, isContent, content
 use Rattle.wire.specs.Writing.{when, single, withCount, plainBytes, headBytes, wroteAfter, writeNothing, writeOn, writeThen, spell, writeEntry, writeItem, write}
 use Rattle.wire.specs.Append.{isOpen, matches, firsts, isOpenRoot, appends}
 use Rattle.wire.specs.Frames.{gapAfter, groups, decode, room, toZero, noMessage, feedOn, framed, feedEnd, feedFit, feed, padded}
-use Rattle.wire.specs.Answers.{numbered, done, readSays, writeSays, askSays, wordsOf, words, entriesOf, roomOf, storeWith, readBy, reads, readsStrict, readAnswer, restOf, mayTake, taken, takes, placeAfter, formOf, formed, writeBy, writes, writeAnswer, outWith, askBy, asks}
-use Rattle.wire.specs.Cases.{readSaid, readRun, tookSaid, wroteForm, valuesBy, isYes, fedSaid, answer, case, tableT, tabled, leafTable, fourFields, inFront, atEnd, oneVariant, twoVariants, nested, untouched, store, out, array, cases, ours, strict, Hold}
+use Rattle.wire.specs.Answers.{numbered, done, readSays, writeSays, askSays, wordsOf, words, entriesOf, roomOf, storeWith, readBy, reads, readsStrict, readAnswer, restOf, mayTake, taken, takes, placeAfter, formOf, formed, writeBy, writes, writeAnswer, outWith, askBy, areaBytes, asksWith, zeroed, areaAfter}
+use Rattle.wire.specs.Cases.{readSaid, readRun, tookSaid, wroteForm, valuesBy, isYes, askedSaid, fedSaid, answer, case, tableT, tabled, inSecond, marked, leafTable, fourFields, inFront, atEnd, oneVariant, twoVariants, nested, untouched, store, out, enough, array, cases, ours, strict, forms, trailed, AtLimits, BeyondLimits, Hold, Areas}
 
 -- to open this is to compute all definitions
 unfoldable computing : Unit {0}
-unfolding pick given both decided bits size sameKind count u16At layoutAt goodNumbers goodTrailer kinds isKind kindOf nodeAt recordOf firstChild childCount below goodPlaces goodKind goodNode checkFrom checkAt check shapesAt shapeBy shapeF shapeOf following isKnown all times nth along walk walks part toldAfter tellNothing tellOn tellThen tellItem tell isPooled valueOf valued values most last low varintF varint shortestF shortest signedWord isSignedWord zigzag unzigzag word isWord zigzagged unzigzagged onFirst little littleBytes inOrder wordOf widthOf lowOf highOf utf8F utf8 leadPart sixes firstChar isChar charBytes flag counted charOf isContent contentOf readPlain known head strictly judged headBy runAfter readNothing readOn readThen past enter readItem read readStrict within fit when single withCount plainBytes headBytes wroteAfter writeNothing writeOn writeThen spell writeEntry writeItem write isOpen matches firsts isOpenRoot appends gapAfter groups decode room toZero noMessage feedOn framed feedEnd feedFit feed padded numbered done readSays writeSays askSays wordsOf words entriesOf roomOf storeWith readBy reads readsStrict readAnswer restOf mayTake taken takes placeAfter formOf formed writeBy writes writeAnswer outWith askBy asks readSaid readRun tookSaid wroteForm valuesBy isYes fedSaid answer case tableT tabled leafTable fourFields inFront atEnd oneVariant twoVariants nested untouched store out array cases ours strict
+unfolding pick given both decided bits size sameKind count depth deepest u16At u32At sizeOf markOf mostNodes mostBytes tableForm endingAt layoutAt goodNumbers goodTrailer kinds isKind kindOf nodeAt recordOf firstChild childCount below goodPlaces goodKind goodNode shapesAt shapeBy shapeF shapeOf chainOf shortChain goodIn checkFrom checkAt checkAs check following isKnown all times nth along walk walks part toldAfter tellNothing tellOn tellThen tellItem tell isPooled valueOf valued values most last low varintF varint shortestF shortest signedWord isSignedWord zigzag unzigzag word isWord zigzagged unzigzagged onFirst little littleBytes inOrder wordOf widthOf lowOf highOf utf8F utf8 leadPart sixes firstChar isChar charBytes flag counted charOf isContent contentOf readPlain known head strictly judged headBy runAfter readNothing readOn readThen past enter readItem read readStrict within fit when single withCount plainBytes headBytes wroteAfter writeNothing writeOn writeThen spell writeEntry writeItem write isOpen matches firsts isOpenRoot appends gapAfter groups decode room toZero noMessage feedOn framed feedEnd feedFit feed padded numbered done readSays writeSays askSays wordsOf words entriesOf roomOf storeWith readBy reads readsStrict readAnswer restOf mayTake taken takes placeAfter formOf formed writeBy writes writeAnswer outWith askBy areaBytes asksWith zeroed areaAfter readSaid readRun tookSaid wroteForm valuesBy isYes askedSaid fedSaid answer case tableT tabled inSecond marked leafTable fourFields inFront atEnd oneVariant twoVariants nested untouched store out enough array cases ours strict forms trailed
 computing = tt
 
 pub cases-hold : Hold cases
@@ -31,3 +31,15 @@ ours-hold = refl
 pub strict-hold : Hold strict
 unfolding computing
 strict-hold = refl
+
+pub forms-hold : Hold forms
+unfolding computing
+forms-hold = refl
+
+pub limits-hold : AtLimits × BeyondLimits
+unfolding computing
+limits-hold = (refl, refl)
+
+pub areas-hold : Areas
+unfolding computing
+areas-hold = refl

@@ -5,7 +5,7 @@
 use mathlib.Core.Bool.{Bool, true, false}
 use mathlib.Core.List.{List, [], _∷_, _++_}
 use Prim.Native.Nat.{ℕ, _+_, _/_, _%_}
-use lib.ListN.{length, drop}
+use lib.ListN.{length, drop, replicate}
 use lib.Dec.{leb, ltb, eqb}
 use Rattle.wire.specs.declared.Refusal.{Refusal}
 use Rattle.wire.specs.declared.Refusal.the-variants.{Trailer, Record, End, BadVarint, BadBool, BadChar, BadUtf8, BadOption, Variant, Room, Values, Full, NotShortest}
@@ -22,7 +22,7 @@ use Rattle.wire.specs.declared.TakeAnswer.the-variants.{Done as Taken, R
 use Rattle.wire.specs.declared.Side.{Side}
 use Rattle.wire.specs.declared.Side.the-variants.{Old, New}
 use Rattle.wire.specs.declared.AskAnswer.{AskAnswer}
-use Rattle.wire.specs.declared.AskAnswer.the-variants.{Says, Refused as NotAsked}
+use Rattle.wire.specs.declared.AskAnswer.the-variants.{Says, Refused as NotAsked, ShortArea}
 use Rattle.wire.specs.declared.FeedAnswer.{FeedAnswer}
 use Rattle.wire.specs.declared.FeedAnswer.the-variants.{Consumed, OverFull, BadFrame, Frame, BadState}
 use Rattle.wire.specs.Tests.{pick, given, both}
@@ -97,6 +97,7 @@ takeSays (NotTaken why p) = numbered why p
 unfoldable pub askSays : AskAnswer → Numbered
 askSays (Says y) = done 0
 askSays (NotAsked side why i) = numbered why i
+askSays ShortArea = record { number = 25; place = 0 }
 
 -- ---- entries as words
 
@@ -220,5 +221,22 @@ askBy (Good l) (Good l′) old new = Says (appends (shapeOf old l) (shapeOf new 
 askBy (Good l) (Bad why i) old new = NotAsked New why i
 askBy (Bad why i) checked old new = NotAsked Old why i
 
-unfoldable pub asks : List ℕ → List ℕ → AskAnswer
-asks old new = askBy (check old) (check new) old new
+-- the work area: one bit a pair of 4,096 nodes
+unfoldable pub areaBytes : ℕ
+areaBytes = 2097152
+
+-- with a work area of so many bytes; one that is too short is refused before all others
+unfoldable pub asksWith : (bytes : ℕ) → List ℕ → List ℕ → AskAnswer
+asksWith bytes old new = given (leb areaBytes bytes) (λ _. askBy (check old) (check new) old new) ShortArea
+
+-- what the area holds does not matter
+unfoldable pub asks : (old new area : List ℕ) → AskAnswer
+asks old new area = asksWith (length area) old new
+
+-- so many zeros in front, and every later byte as before
+unfoldable pub zeroed : ℕ → List ℕ → List ℕ
+zeroed n area = replicate n 0 ++ drop n area
+
+-- the area is handed back all zero; one that is too short is unchanged
+unfoldable pub areaAfter : List ℕ → List ℕ
+areaAfter area = given (leb areaBytes (length area)) (λ _. zeroed areaBytes area) area

@@ -4,20 +4,21 @@ use mathlib.Core.Path.{_≡_}
 use mathlib.Core.Bool.{Bool, true, false}
 use mathlib.Core.List.{List, [], _∷_, _++_}
 use mathlib.Core.List as lists
-use Prim.Native.Nat.{ℕ, _+_}
-use lib.ListN.{length, replicate}
+use Prim.Native.Nat.{ℕ, _+_, _-_, _*_}
+use lib.ListN.{length, take, drop, replicate}
+use Rattle.wire.specs.declared.Ending.{Ending}
 use Rattle.wire.specs.declared.Checked.{Checked}
 use Rattle.wire.specs.declared.Checked.the-variants.{Good, Bad}
 use Rattle.wire.specs.declared.ReadAnswer.{ReadAnswer}
 use Rattle.wire.specs.declared.TakeAnswer.{TakeAnswer}
 use Rattle.wire.specs.declared.TakeAnswer.the-variants.{Done as Taken, Refused as NotTaken}
 use Rattle.wire.specs.declared.AskAnswer.{AskAnswer}
-use Rattle.wire.specs.declared.AskAnswer.the-variants.{Says, Refused as NotAsked}
-use Rattle.wire.specs.Table.{check, shapeOf}
+use Rattle.wire.specs.declared.AskAnswer.the-variants.{Says, Refused as NotAsked, ShortArea}
+use Rattle.wire.specs.Table.{first, second, goodTrailer, shortChain, check, shapeOf}
 use Rattle.wire.specs.Values.{Value, number, content, Valued, whole, tooShort, unknown, values}
 use Rattle.wire.specs.Reading.{Run}
 use Rattle.wire.specs.Frames.{Fed, padded, feed}
-use Rattle.wire.specs.Answers.{refusalNumber, feedNumber, Numbered, readSays, writeSays, askSays, entriesOf, storeWith, reads, readsStrict, readAnswer, restOf, takes, placeAfter, Form, writes, writeAnswer, outWith, asks}
+use Rattle.wire.specs.Answers.{refusalNumber, feedNumber, Numbered, readSays, writeSays, askSays, entriesOf, storeWith, reads, readsStrict, readAnswer, restOf, takes, placeAfter, Form, writes, writeAnswer, outWith, asksWith, areaAfter, zeroed}
 
 -- ---- calls and answers
 
@@ -26,7 +27,7 @@ pub data Call : Type 0 where
   taking : (kind : ℕ) (message : List ℕ) (place : ℕ) → Call
   writing : (table ws pool out : List ℕ) → Call
   valuing : (table ws pool : List ℕ) → Call
-  asking : (old new : List ℕ) → Call
+  asking : (old new : List ℕ) (bytes : ℕ) → Call
   feeding : (array : List ℕ) (idx : ℕ) (chunk : List ℕ) → Call
 
 pub data Said : Type 0 where
@@ -59,6 +60,10 @@ valuesBy (Bad why i) table ws pool = badTable
 unfoldable pub isYes : AskAnswer → Bool
 isYes (Says y) = y
 isYes (NotAsked side why i) = false
+isYes ShortArea = false
+
+unfoldable pub askedSaid : AskAnswer → Said
+askedSaid answered = asked (askSays answered .number) (askSays answered .place) (isYes answered)
 
 unfoldable pub fedSaid : Fed → Said
 fedSaid got = fed (feedNumber (got .answer)) (got .message) (got .rest) (got .array) (got .idx)
@@ -69,7 +74,7 @@ answer (readingStrictly table message store) = readRun (readsStrict table messag
 answer (taking kind message place) = tookSaid place (takes kind message place)
 answer (writing table ws pool out) = wroteForm (writes table ws pool (length out)) out
 answer (valuing table ws pool) = valuesBy (check table) table ws pool
-answer (asking old new) = asked (askSays (asks old new) .number) (askSays (asks old new) .place) (isYes (asks old new))
+answer (asking old new bytes) = askedSaid (asksWith bytes old new)
 answer (feeding array idx chunk) = fedSaid (feed array idx chunk)
 
 pub record Case : Type 0 where
@@ -99,6 +104,14 @@ tableT =
 unfoldable pub tabled : (records children : List ℕ) (n root : ℕ) → List ℕ
 tabled records children n root =
     records ++ (children ++ (length children ∷ 0 ∷ (length records + length children) ∷ 0 ∷ n ∷ 0 ∷ root ∷ 0 ∷ 0x53 ∷ 0x50 ∷ []))
+
+-- the same table in the second form: C and D get two bytes more, and the mark is another
+unfoldable pub inSecond : List ℕ → List ℕ
+inSecond s = take (length s - 8) s ++ (0 ∷ 0 ∷ (take 2 (drop (length s - 8) s) ++ (0 ∷ 0 ∷ (take 4 (drop (length s - 6) s) ++ (0x57 ∷ 0x50 ∷ [])))))
+
+-- the same bytes under another mark
+unfoldable pub marked : (low high : ℕ) → List ℕ → List ℕ
+marked low high s = take (length s - 2) s ++ (low ∷ high ∷ [])
 
 -- one node, of a kind without children
 unfoldable pub leafTable : ℕ → List ℕ
@@ -139,6 +152,10 @@ store = untouched 14
 unfoldable pub out : List ℕ
 out = replicate 4 7
 
+-- a work area's bytes
+unfoldable pub enough : ℕ
+enough = 2097152
+
 -- a state's array
 unfoldable pub array : List ℕ
 array = replicate 256 9
@@ -176,13 +193,13 @@ ours =
     ∷ case (reading (0x01 ∷ 0x02 ∷ []) (0x07 ∷ []) store) (read 1 0 0 store [])
     ∷ case (reading (leafTable 32) (0x07 ∷ []) store) (read 2 0 0 store [])
     ∷ case (reading tableT (0x07 ∷ 0xac ∷ 0x02 ∷ 0x05 ∷ 0x03 ∷ []) store) (read 0 4 4 (0 ∷ 0 ∷ 0 ∷ 7 ∷ 0 ∷ 0 ∷ 300 ∷ 0 ∷ 1 ∷ 18446744073709551613 ∷ 0 ∷ 3 ∷ untouched 2) (0x03 ∷ []))
-    ∷ case (asking tableT inFront) (asked 0 0 false)
-    ∷ case (asking tableT atEnd) (asked 0 0 true)
-    ∷ case (asking (nested 1) (nested 1)) (asked 0 0 true)
-    ∷ case (asking (nested 1) (nested 2)) (asked 0 0 false)
-    ∷ case (asking oneVariant (twoVariants (0 ∷ 0 ∷ 1 ∷ 0 ∷ []))) (asked 0 0 true)
-    ∷ case (asking oneVariant (twoVariants (1 ∷ 0 ∷ 0 ∷ 0 ∷ []))) (asked 0 0 false)
-    ∷ case (asking tableT (leafTable 32)) (asked 2 0 false)
+    ∷ case (asking tableT inFront enough) (asked 0 0 false)
+    ∷ case (asking tableT atEnd enough) (asked 0 0 true)
+    ∷ case (asking (nested 1) (nested 1) enough) (asked 0 0 true)
+    ∷ case (asking (nested 1) (nested 2) enough) (asked 0 0 false)
+    ∷ case (asking oneVariant (twoVariants (0 ∷ 0 ∷ 1 ∷ 0 ∷ [])) enough) (asked 0 0 true)
+    ∷ case (asking oneVariant (twoVariants (1 ∷ 0 ∷ 0 ∷ 0 ∷ [])) enough) (asked 0 0 false)
+    ∷ case (asking tableT (leafTable 32) enough) (asked 2 0 false)
     ∷ case (valuing (leafTable 12) (1 ∷ 2 ∷ 0 ∷ []) (0x61 ∷ 0x62 ∷ 0x63 ∷ [])) (are (whole (content (0x62 ∷ 0x63 ∷ []) ∷ [])))
     ∷ case (valuing oneVariant (2 ∷ 0 ∷ 0 ∷ 0 ∷ 0 ∷ 1 ∷ 5 ∷ 0 ∷ 2 ∷ []) []) (are (tooShort (number 2 0 ∷ number 0 0 ∷ number 5 0 ∷ [])))
     ∷ case (valuing oneVariant (1 ∷ 0 ∷ 0 ∷ 1 ∷ 0 ∷ 1 ∷ 5 ∷ 0 ∷ 2 ∷ []) []) (are (unknown (number 1 0 ∷ [])))
@@ -228,3 +245,44 @@ strict =
     ∷ case (readingStrictly oneVariant (0x01 ∷ 0x81 ∷ 0x00 ∷ []) store) (read 9 1 1 (1 ∷ 0 ∷ 0 ∷ untouched 11) [])
     ∷ case (readingStrictly oneVariant (0x01 ∷ 0x80 ∷ 0x00 ∷ 0x05 ∷ []) store) (read 16 1 1 (1 ∷ 0 ∷ 0 ∷ untouched 11) [])
     ∷ []
+
+-- the second form: T in it is T, forms may differ across the append question, and each form wants its own length and mark;
+-- and a work area that is a byte too short
+unfoldable pub forms : List Case
+forms =
+    case (reading (inSecond tableT) (0xac ∷ 0x02 ∷ 0x05 ∷ 0x03 ∷ 0x01 ∷ []) store) (read 0 4 4 (0 ∷ 0 ∷ 0 ∷ 300 ∷ 0 ∷ 0 ∷ 5 ∷ 0 ∷ 2 ∷ 18446744073709551614 ∷ 0 ∷ 3 ∷ untouched 2) (0x01 ∷ []))
+    ∷ case (reading (inSecond (leafTable 32)) (0x07 ∷ []) store) (read 2 0 0 store [])
+    ∷ case (reading (marked 0x57 0x50 tableT) (0x07 ∷ []) store) (read 1 0 0 store [])
+    ∷ case (reading (marked 0x53 0x50 (inSecond tableT)) (0x07 ∷ []) store) (read 1 0 0 store [])
+    ∷ case (reading (drop 7 (inSecond (leafTable 5))) (0x07 ∷ []) store) (read 1 0 0 store [])
+    ∷ case (asking tableT (inSecond atEnd) enough) (asked 0 0 true)
+    ∷ case (asking (inSecond tableT) atEnd enough) (asked 0 0 true)
+    ∷ case (asking (inSecond atEnd) tableT enough) (asked 0 0 false)
+    ∷ case (asking tableT atEnd 2097151) (asked 25 0 false)
+    ∷ case (asking [] [] 2097151) (asked 25 0 false)
+    ∷ []
+
+-- ---- limits
+
+-- a trailer of c bytes of child list and n nodes
+unfoldable pub trailed : (mark c n : ℕ) → Ending
+trailed mark c n = record { c = c; d = 6 * n + c; n = n; root = 0; mark = mark }
+
+-- each form's limits are good, in a file of just so many bytes before the trailer
+abbrev pub AtLimits : Type 0
+AtLimits =
+    (goodTrailer first (trailed 0x5053 2048 256) 3584 ∷ goodTrailer second (trailed 0x5057 65536 4096) 90112 ∷ shortChain 256 ∷ [])
+    ≡ (true ∷ true ∷ true ∷ [])
+
+-- a byte less in front of the trailer, a place or a node more, the other form's mark and a longer chain are not
+abbrev pub BeyondLimits : Type 0
+BeyondLimits =
+    (goodTrailer first (trailed 0x5053 2048 256) 3583 ∷ goodTrailer second (trailed 0x5057 65536 4096) 90111
+    ∷ goodTrailer first (trailed 0x5053 2050 256) 90118 ∷ goodTrailer second (trailed 0x5057 65538 4096) 90118
+    ∷ goodTrailer first (trailed 0x5053 2048 257) 90118 ∷ goodTrailer second (trailed 0x5057 65536 4097) 90118
+    ∷ goodTrailer first (trailed 0x5057 2048 256) 90118 ∷ goodTrailer second (trailed 0x5053 65536 4096) 90118 ∷ shortChain 257 ∷ [])
+    ≡ replicate 9 false
+
+-- an area that is too short is unchanged, and zeros in front leave the later bytes
+abbrev pub Areas : Type 0
+Areas = (areaAfter (untouched 3) ∷ zeroed 2 (untouched 4) ∷ []) ≡ (untouched 3 ∷ (0 ∷ 0 ∷ untouched 2) ∷ [])

@@ -1,6 +1,7 @@
 pub mod Tests
 pub mod Shape
 pub mod Table
+pub mod Before
 pub mod Walk
 pub mod Values
 pub mod Numbers

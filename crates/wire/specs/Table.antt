@@ -1,6 +1,6 @@
--- The schema table: a file read from its end, and the shape that it describes.
--- Letters: s the file's bytes, l its layout, i a node's number, r its record with a and b, k its kind, f the shape of each node;
--- c, d and n are the trailer's C, D and node count.
+-- The schema table: a file read from its end, whose last two bytes choose its trailer's form, and the shape that it describes.
+-- Letters: s the file's bytes, t its trailer, which begins at `end`, l its layout, i a node's number, r its record with a and b,
+-- k its kind, f the shape of each node; c, d and n are the trailer's C, D and node count.
 -- Assumes nothing.
 use mathlib.Core.Bool.{Bool, true, false}
 use mathlib.Core.List.{List, [], _∷_}
@@ -8,20 +8,57 @@ use Prim.Native.Nat.{ℕ, zero, suc, _+_, _-_, _*_, _/_, _%_}
 use lib.ListN.{length, getD}
 use lib.Dec.{ltb, leb, eqb}
 use Rattle.wire.specs.declared.Refusal.the-variants.{Trailer, Record}
+use Rattle.wire.specs.declared.Ending.{Ending}
 use Rattle.wire.specs.declared.Layout.{Layout}
 use Rattle.wire.specs.declared.Checked.{Checked}
 use Rattle.wire.specs.declared.Checked.the-variants.{Good, Bad}
 use Rattle.wire.specs.Tests.{pick, given, both}
-use Rattle.wire.specs.Shape.{w16, w32, w64, le, be, signed, unsigned, bool, i8, u8, f32, f64, char, unit, int, fixed, text, raw, Kind, plain, pooled, option, sequence, map, struct, enum, Shape, node, Shapes, none, more}
+use Rattle.wire.specs.Shape.{w16, w32, w64, le, be, signed, unsigned, bool, i8, u8, f32, f64, char, unit, int, fixed, text, raw, Kind, plain, pooled, option, sequence, map, struct, enum, Shape, node, Shapes, none, more, depth}
 
 unfoldable pub u16At : List ℕ → ℕ → ℕ
 u16At s at = getD s at 0 + 256 * getD s (at + 1) 0
 
--- ---- the trailer: C, D, the node count n, the root and the mark, from `end` on
+unfoldable pub u32At : List ℕ → ℕ → ℕ
+u32At s at = u16At s at + 65536 * u16At s (at + 2)
 
-unfoldable pub layoutAt : List ℕ → ℕ → Layout
-layoutAt s end =
-    record { records = end - u16At s (end + 2); children = end - u16At s end; places = u16At s end / 2; nodes = u16At s (end + 4); root = u16At s (end + 6) }
+-- ---- the trailer
+
+pub data TableForm : Type 0 where
+  first second : TableForm
+
+-- a trailer's bytes
+unfoldable pub sizeOf : TableForm → ℕ
+sizeOf first = 10
+sizeOf second = 14
+
+-- the bytes 53 50, and 57 50
+unfoldable pub markOf : TableForm → ℕ
+markOf first = 0x5053
+markOf second = 0x5057
+
+-- the most nodes, and the most bytes of child list, two to a place
+unfoldable pub mostNodes : TableForm → ℕ
+mostNodes first = 256
+mostNodes second = 4096
+
+unfoldable pub mostBytes : TableForm → ℕ
+mostBytes first = 2048
+mostBytes second = 65536
+
+-- the last two bytes choose the form: the second where they are its mark
+unfoldable pub tableForm : List ℕ → TableForm
+tableForm s = pick (eqb (u16At s (length s - 2)) (markOf second)) second first
+
+-- C, D, the node count n, the root and the mark: five u16, of which the second form has C and D as u32
+unfoldable pub endingAt : TableForm → List ℕ → ℕ → Ending
+endingAt first s end =
+    record { c = u16At s end; d = u16At s (end + 2); n = u16At s (end + 4); root = u16At s (end + 6); mark = u16At s (end + 8) }
+endingAt second s end =
+    record { c = u32At s end; d = u32At s (end + 4); n = u16At s (end + 8); root = u16At s (end + 10); mark = u16At s (end + 12) }
+
+-- the child list starts C bytes before the trailer, the node records D bytes before it
+unfoldable pub layoutAt : Ending → ℕ → Layout
+layoutAt t end = record { records = end - t .d; children = end - t .c; places = t .c / 2; nodes = t .n; root = t .root }
 
 -- the trailer's numbers, where there may be so many nodes and so many bytes of child list
 unfoldable pub goodNumbers : (nodes bytes : ℕ) → (c d n root end : ℕ) → Bool
@@ -31,10 +68,9 @@ goodNumbers nodes bytes c d n root end =
     (both (both (eqb (c % 2) 0) (leb c bytes))
     (both (eqb d (6 * n + c)) (leb d end))))
 
-unfoldable pub goodTrailer : List ℕ → ℕ → Bool
-goodTrailer s end =
-    both (eqb (u16At s (end + 8)) 0x5053)
-    (goodNumbers 256 2048 (u16At s end) (u16At s (end + 2)) (u16At s (end + 4)) (u16At s (end + 6)) end)
+unfoldable pub goodTrailer : TableForm → Ending → ℕ → Bool
+goodTrailer form t end =
+    both (eqb (t .mark) (markOf form)) (goodNumbers (mostNodes form) (mostBytes form) (t .c) (t .d) (t .n) (t .root) end)
 
 -- ---- the records
 
@@ -110,17 +146,6 @@ goodKind s l i k a b = given (goodPlaces l k a b) (λ _. below s i (firstChild l
 unfoldable pub goodNode : List ℕ → Layout → ℕ → Node → Bool
 goodNode s l i r = both (both (isKind (r .number)) (eqb (r .zeroed) 0)) (goodKind s l i (kindOf (r .number)) (r .a) (r .b))
 
--- the first that is not good of the nodes from i on, of which so many are left
-unfoldable pub checkFrom : List ℕ → Layout → ℕ → ℕ → Checked
-checkFrom s l i zero = Good l
-checkFrom s l i (suc left) = given (goodNode s l i (nodeAt s (recordOf l i))) (λ _. checkFrom s l (i + 1) left) (Bad Record i)
-
-unfoldable pub checkAt : List ℕ → ℕ → Checked
-checkAt s end = given (goodTrailer s end) (λ _. checkFrom s (layoutAt s end) 0 (layoutAt s end .nodes)) (Bad Trailer 0)
-
-unfoldable pub check : List ℕ → Checked
-check s = given (leb 10 (length s)) (λ _. checkAt s (length s - 10)) (Bad Trailer 0)
-
 -- ---- the shape
 
 -- the shapes that the numbers from an offset on name, of which so many are left
@@ -139,3 +164,33 @@ shapeF (suc bound) s l i = shapeBy (λ child. shapeF bound s l child) s l i (nod
 
 unfoldable pub shapeOf : List ℕ → Layout → Shape
 shapeOf s l = shapeF (l .nodes) s l (l .root)
+
+-- ---- the check
+
+-- the longest chain of children of the node i, a leaf counting 1
+unfoldable pub chainOf : List ℕ → Layout → ℕ → ℕ
+chainOf s l i = depth (shapeF (suc i) s l i)
+
+unfoldable pub shortChain : ℕ → Bool
+shortChain chain = leb chain 256
+
+-- a node's record is good, and in the second form its chain is short; the first form has too few nodes for a long one
+unfoldable pub goodIn : TableForm → List ℕ → Layout → ℕ → Bool
+goodIn first s l i = goodNode s l i (nodeAt s (recordOf l i))
+goodIn second s l i = given (goodNode s l i (nodeAt s (recordOf l i))) (λ _. shortChain (chainOf s l i)) false
+
+-- the first that is not good of the nodes from i on, of which so many are left
+unfoldable pub checkFrom : TableForm → List ℕ → Layout → ℕ → ℕ → Checked
+checkFrom form s l i zero = Good l
+checkFrom form s l i (suc left) = given (goodIn form s l i) (λ _. checkFrom form s l (i + 1) left) (Bad Record i)
+
+unfoldable pub checkAt : TableForm → List ℕ → Ending → ℕ → Checked
+checkAt form s t end = given (goodTrailer form t end) (λ _. checkFrom form s (layoutAt t end) 0 (t .n)) (Bad Trailer 0)
+
+unfoldable pub checkAs : TableForm → List ℕ → Checked
+checkAs form s =
+    given (leb (sizeOf form) (length s))
+    (λ _. checkAt form s (endingAt form s (length s - sizeOf form)) (length s - sizeOf form)) (Bad Trailer 0)
+
+unfoldable pub check : List ℕ → Checked
+check s = checkAs (tableForm s) s

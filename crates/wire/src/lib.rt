@@ -17,6 +17,15 @@ pub enum Refusal {
     NotShortest,
 }
 
+// A table's trailer, of either form: C, D, how many nodes there are, the root and the mark.
+pub struct Ending {
+    pub c: usize,
+    pub d: usize,
+    pub n: usize,
+    pub root: usize,
+    pub mark: usize,
+}
+
 // Where a table's parts stand: its node records, its child list of so many places, and its root.
 pub struct Layout {
     pub records: usize,
@@ -87,7 +96,7 @@ pub enum Side {
     New,
 }
 
-// What the append question answers: yes or no, or which table is refused, why and at which node.
+// What the append question answers: yes or no; or which table is refused, why and at which node; or that its work area is too short.
 pub enum AskAnswer {
     Says {
         yes: bool,
@@ -97,6 +106,7 @@ pub enum AskAnswer {
         why: Refusal,
         place: usize,
     },
+    ShortArea,
 }
 
 // What a feed of the accumulator answers.

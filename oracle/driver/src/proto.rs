@@ -81,11 +81,16 @@ pub fn answer(line: &str, from_document: bool) -> Result<String, String> {
             let out_len = number(out_len)? as usize;
             Ok(write_text(&write(&unhex(table)?, &words(list)?, &unhex(pool)?, out_len)))
         }
-        ["A", old, new] => Ok(match appends(&unhex(old)?, &unhex(new)?) {
+        ["A", old, new, area] => Ok(match appends(&unhex(old)?, &unhex(new)?, number(area)? as usize) {
             Ok(true) => "yes".into(),
             Ok(false) => "no".into(),
             Err((Refusal { no, place }, which)) => {
-                format!("refuse {no} {place:x} {}", if which == Which::Old { "old" } else { "new" })
+                let which = match which {
+                    Which::Old => "old",
+                    Which::New => "new",
+                    Which::Neither => "neither",
+                };
+                format!("refuse {no} {place:x} {which}")
             }
         }),
         ["F", idx, array, chunk] => {

@@ -1,4 +1,4 @@
-//! The schema table, from 01.
+//! The schema table, from 01 and, for the second form of its file, from T-10.
 
 use crate::Refusal;
 
@@ -26,8 +26,29 @@ pub const ENUM: u8 = 19;
 pub const FIX_FIRST: u8 = 20;
 pub const FIX_LAST: u8 = 31;
 
-/// The last two bytes of every table.
-const MARK: [u8; 2] = [0x53, 0x50];
+/// A form of a table's file, which its last two bytes choose.
+#[derive(Clone, Copy, Debug, PartialEq, Eq)]
+pub struct Form {
+    pub mark: [u8; 2],
+    /// The bytes of C, and those of D.
+    wide: usize,
+    /// Most nodes, and most places in the child list.
+    pub nodes: usize,
+    pub places: usize,
+}
+
+pub const FIRST: Form = Form { mark: [0x53, 0x50], wide: 2, nodes: 256, places: 1_024 };
+pub const SECOND: Form = Form { mark: [0x57, 0x50], wide: 4, nodes: 4_096, places: 32_768 };
+
+impl Form {
+    /// The trailer's length: C and D, the node count, the root and the mark.
+    pub fn trailer(&self) -> usize {
+        2 * self.wide + 6
+    }
+}
+
+/// The longest chain of children, a leaf counting 1.
+pub const CHAIN: usize = 256;
 
 #[derive(Clone, Debug, PartialEq, Eq)]
 pub struct Node {
@@ -51,17 +72,16 @@ impl Table {
 
     pub fn parse(file: &[u8]) -> Result<Table, Refusal> {
         let bad_trailer = Refusal { no: 1, place: 0 };
-        if file.len() < 10 {
-            return Err(bad_trailer);
-        }
-        let body = file.len() - 10;
-        let u16_at = |p: usize| usize::from(u16::from_le_bytes([file[p], file[p + 1]]));
-        let (c, d, n, root) = (u16_at(body), u16_at(body + 2), u16_at(body + 4), u16_at(body + 6));
-        let good = file[body + 8..] == MARK
-            && (1..=256).contains(&n)
+        let form = [FIRST, SECOND].into_iter().find(|form| file.ends_with(&form.mark)).ok_or(bad_trailer)?;
+        let body = file.len().checked_sub(form.trailer()).ok_or(bad_trailer)?;
+        let number = |p: usize, len: usize| file[p..p + len].iter().rev().fold(0, |x, &b| x << 8 | usize::from(b));
+        let u16_at = |p: usize| number(p, 2);
+        let (c, d) = (number(body, form.wide), number(body + form.wide, form.wide));
+        let (n, root) = (u16_at(body + 2 * form.wide), u16_at(body + 2 * form.wide + 2));
+        let good = (1..=form.nodes).contains(&n)
             && root < n
             && c % 2 == 0
-            && c <= 2048
+            && c / 2 <= form.places
             && d == 6 * n + c
             && d <= body;
         if !good {
@@ -70,6 +90,7 @@ impl Table {
 
         let (records, list) = (body - d, body - c);
         let mut nodes = Vec::with_capacity(n);
+        let mut chains: Vec<usize> = Vec::with_capacity(n);
         for i in 0..n {
             let p = records + 6 * i;
             let (kind, zero, a, b) = (file[p], file[p + 1], u16_at(p + 2), u16_at(p + 4));
@@ -83,21 +104,29 @@ impl Table {
                 }
                 _ => None,
             };
-            match named {
-                Some(kids) if zero == 0 && kids.iter().all(|&k| k < i) => nodes.push(Node { kind, kids }),
-                _ => return Err(Refusal { no: 2, place: i }),
+            let bad_record = Refusal { no: 2, place: i };
+            let kids = named.filter(|kids| zero == 0 && kids.iter().all(|&k| k < i)).ok_or(bad_record)?;
+            let chain = 1 + kids.iter().map(|&k| chains[k]).max().unwrap_or(0);
+            if chain > CHAIN {
+                return Err(bad_record);
             }
+            chains.push(chain);
+            nodes.push(Node { kind, kids });
         }
         Ok(Table { nodes, root })
     }
 
-    /// A file that `parse` makes this table of.
+    /// A file of the first form that `parse` makes this table of.
     pub fn file(&self) -> Vec<u8> {
-        self.file_with(&[], &[])
+        self.file_in(FIRST)
+    }
+
+    pub fn file_in(&self, form: Form) -> Vec<u8> {
+        self.file_with(form, &[], &[])
     }
 
     /// The same, with places in front of the child list that are there already, and a note.
-    pub fn file_with(&self, list: &[u16], note: &[u8]) -> Vec<u8> {
+    pub fn file_with(&self, form: Form, list: &[u16], note: &[u8]) -> Vec<u8> {
         let mut list = list.to_vec();
         let mut records = vec![];
         for node in &self.nodes {
@@ -106,8 +135,9 @@ impl Table {
                 OPTION | SEQ => (kids[0], 0),
                 MAP => (kids[0], kids[1]),
                 STRUCT | ENUM if !kids.is_empty() => {
-                    // A part of the list that already says the same may serve again.
-                    let shared = list.windows(kids.len()).position(|w| w == kids);
+                    // A part of the list that already says the same may serve again. A long list isn't searched.
+                    let searched = &list[..list.len().min(FIRST.places)];
+                    let shared = searched.windows(kids.len()).position(|w| w == kids);
                     let a = shared.unwrap_or_else(|| {
                         list.extend(&kids);
                         list.len() - kids.len()
@@ -123,10 +153,10 @@ impl Table {
         let (c, d) = (2 * list.len(), 2 * list.len() + records.len());
         let mut file = [note, &records].concat();
         list.iter().for_each(|k| file.extend(k.to_le_bytes()));
-        for x in [c, d, self.nodes.len(), self.root] {
-            file.extend((x as u16).to_le_bytes());
+        for (x, wide) in [(c, form.wide), (d, form.wide), (self.nodes.len(), 2), (self.root, 2)] {
+            file.extend(&x.to_le_bytes()[..wide]);
         }
-        file.extend(MARK);
+        file.extend(form.mark);
         file
     }
 }

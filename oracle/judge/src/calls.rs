@@ -1,4 +1,5 @@
 //! One request to both: the library's answer with all lent memory, and the oracle's.
+use crate::area::Area;
 use oracle_driver::append::{appends, Which};
 use oracle_driver::feed::{feed, ROOM};
 use oracle_driver::proto::{number, unhex, words};
@@ -9,7 +10,7 @@ use std::fmt::Debug;
 /// What differs, in words.
 pub struct Differs(pub String);
 
-fn same<T: PartialEq + Debug>(what: &str, ours: T, right: T) -> Result<(), Differs> {
+pub fn same<T: PartialEq + Debug>(what: &str, ours: T, right: T) -> Result<(), Differs> {
     if ours == right {
         return Ok(());
     }
@@ -77,10 +78,29 @@ pub fn write(table: &[u8], words: &[u64], pool: &[u8], out_len: usize) -> Result
     same("output", out, after)
 }
 
-fn append(old: &[u8], new: &[u8]) -> Result<(), Differs> {
-    let ours = reystavem::appends(old, new).map_err(|(side, refused)| (side == Side::New, numbered(refused)));
-    let right = appends(old, new).map_err(|(Refusal { no, place }, which)| (which == Which::New, (no, place)));
-    same("answer", ours, right)
+/// With so many bytes of the area, in which the request decides what stands before the call.
+fn append(old: &[u8], new: &[u8], length: usize, area: &mut Area) -> Result<(), Differs> {
+    let right = appends(old, new, length);
+    let seed = area.dirty(&[old, new], length);
+    let outcome = if seed % 2 == 0 {
+        let ours = reystavem::appends(old, new, area.lent(length));
+        let right = right.map_err(|(Refusal { no, place }, which)| {
+            let side = match which {
+                Which::Old => Some(Side::Old),
+                Which::New => Some(Side::New),
+                Which::Neither => None,
+            };
+            (side, (no, place))
+        });
+        same("answer", ours.map_err(|(side, refused)| (side, numbered(refused))), right)
+    } else {
+        let right = match right {
+            Ok(yes) => (0, [0, 0, yes.into()]),
+            Err((Refusal { no, place }, which)) => (no.into(), [place as u64, (which == Which::New).into(), 0]),
+        };
+        same("number, place, which and yes in C", append_in_c(old, new, area.lent(length)), right)
+    };
+    outcome.and(area.settle(length))
 }
 
 fn feeding(idx: u64, array: [u8; ROOM], chunk: &[u8]) -> Result<(), Differs> {
@@ -102,6 +122,18 @@ fn feeding(idx: u64, array: [u8; ROOM], chunk: &[u8]) -> Result<(), Differs> {
     same("array", state.array, right.array)
 }
 
+/// The number, and the three that the header has besides. The bindings hide some of them.
+fn append_in_c(old: &[u8], new: &[u8], area: &mut [u8]) -> (u64, [u64; 3]) {
+    let mut told = [u64::MAX; 3];
+    let [place, which, yes] = &mut told;
+    let (old_len, new_len, area_len) = (old.len(), new.len(), area.len());
+    // SAFETY: each slice is lent with its own length; the numbers are ours.
+    let number = unsafe {
+        reystavem_append(old.as_ptr(), old_len, new.as_ptr(), new_len, area.as_mut_ptr(), area_len, place, which, yes)
+    };
+    (number, told)
+}
+
 pub fn take(kind: u64, message: &[u8], place: usize) -> Result<(), Differs> {
     let ours = reystavem::take(kind, message, place).map_err(numbered);
     let right =
@@ -115,6 +147,17 @@ pub fn take(kind: u64, message: &[u8], place: usize) -> Result<(), Differs> {
 }
 
 extern "C" {
+    fn reystavem_append(
+        old_table: *const u8,
+        old_len: usize,
+        new_table: *const u8,
+        new_len: usize,
+        area: *mut u8,
+        area_len: usize,
+        place: *mut u64,
+        which: *mut u64,
+        yes: *mut u64,
+    ) -> u64;
     fn reystavem_take(
         kind: u64,
         message: *const u8,
@@ -137,11 +180,11 @@ fn take_in_c(kind: u64, message: &[u8], place: usize) -> (u64, [u64; WORDS], u64
 
 /// One request line: what it is counted as, and whether the answers are the same. A line that can't be parsed is a
 /// difference.
-pub fn judge(line: &str) -> (&'static str, Result<(), Differs>) {
-    parsed(line).unwrap_or_else(|error| ("unknown", Err(Differs(error))))
+pub fn judge(line: &str, area: &mut Area) -> (&'static str, Result<(), Differs>) {
+    parsed(line, area).unwrap_or_else(|error| ("unknown", Err(Differs(error))))
 }
 
-fn parsed(line: &str) -> Result<(&'static str, Result<(), Differs>), String> {
+fn parsed(line: &str, area: &mut Area) -> Result<(&'static str, Result<(), Differs>), String> {
     let fields: Vec<&str> = line.split_ascii_whitespace().collect();
     Ok(match fields[..] {
         ["R", table, message, words] => {
@@ -155,7 +198,9 @@ fn parsed(line: &str) -> Result<(&'static str, Result<(), Differs>), String> {
         ["W", table, list, pool, out] => {
             ("writing", write(&unhex(table)?, &words(list)?, &unhex(pool)?, number(out)? as usize))
         }
-        ["A", old, new] => ("append question", append(&unhex(old)?, &unhex(new)?)),
+        ["A", old, new, length] => {
+            ("append question", append(&unhex(old)?, &unhex(new)?, number(length)? as usize, area))
+        }
         ["F", idx, array, chunk] => {
             let array = unhex(array)?.try_into().map_err(|_| "the array isn't 256 bytes")?;
             ("frames", feeding(number(idx)?, array, &unhex(chunk)?))

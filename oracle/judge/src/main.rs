@@ -1,5 +1,6 @@
 //! Holds every answer of the proved static library against the oracle: number, place, count, every
-//! word of the store, the rest, every byte of the output, the accumulator's array and message.
+//! word of the store, the rest, every byte of the output and of the work area, the accumulator's array
+//! and message.
 //!
 //!   gen SEED COUNT | judge           request lines from stdin (PROTOCOL.md)
 //!   gen SEED COUNT strict | judge    strict reads alone
@@ -7,21 +8,24 @@
 //!
 //! Prints how many requests of each kind were compared, and each difference; exits with 1 if there was one.
 
+mod area;
 mod calls;
 mod short;
 
+use area::Area;
 use calls::Differs;
 use std::collections::BTreeMap;
 use std::io::{self, BufRead};
 
 fn lines() -> Tally {
     let mut tally = Tally::default();
+    let mut area = Area::new();
     for line in io::stdin().lock().lines() {
         let line = line.expect("stdin");
         if line.is_empty() || line.starts_with('#') {
             continue;
         }
-        let (kind, outcome) = calls::judge(&line);
+        let (kind, outcome) = calls::judge(&line, &mut area);
         tally.note(kind, outcome, || line.clone());
     }
     tally

@@ -3,14 +3,18 @@
 //!
 //!   speed leaves     varints and texts
 //!   speed messages   reading and writing
-//!   speed question   the append question's worst pairs
+//!   speed question   the append question on shapes that grow by doubling
+//!   speed warehouse  tables of the second form: small, full, and the worst pairs; the last takes minutes
+//!   speed stack      how deep the stack is under the longest chain
 //!   speed frames     the accumulator
 
 mod frames;
 mod leaves;
 mod messages;
 mod question;
+mod stack;
 mod timing;
+mod warehouse;
 
 fn main() {
     let wanted = std::env::args().nth(1);
@@ -18,6 +22,8 @@ fn main() {
         ("leaves", leaves::report as fn()),
         ("messages", messages::report),
         ("question", question::report),
+        ("warehouse", warehouse::report),
+        ("stack", stack::report),
         ("frames", frames::report),
     ] {
         if wanted.as_deref().is_none_or(|w| w == name) {

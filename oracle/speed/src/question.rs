@@ -2,6 +2,7 @@
 //! compared pairs would do.
 use crate::timing::{race, side};
 use oracle_driver::table::{Node, Table, ENUM, STRUCT, U8};
+use reystavem::AREA;
 use std::hint::black_box;
 
 /// So many nodes, each of a kind with the one below it twice.
@@ -20,12 +21,13 @@ fn plain(old: &Table, new: &Table, a: usize, b: usize) -> bool {
 
 pub fn report() {
     println!("| Append question, each node twice the one below | ours, µs | plain recursion, µs |\n|---|---|---|");
+    let mut area = vec![0; AREA];
     for (name, kind) in [("structs", STRUCT), ("enums", ENUM)] {
         for nodes in [11, 16, 21, 256] {
             let table = doubling(kind, nodes);
             let file = table.file();
-            assert_eq!(reystavem::appends(&file, &file), Ok(true));
-            let [ours] = race([side(|| reystavem::appends(black_box(&file), black_box(&file)).is_ok())]);
+            assert_eq!(reystavem::appends(&file, &file, &mut area), Ok(true));
+            let [ours] = race([side(|| reystavem::appends(black_box(&file), black_box(&file), &mut area).is_ok())]);
             let other = match nodes {
                 256 => "2^255 pairs".to_string(),
                 _ => {

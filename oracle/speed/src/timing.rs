@@ -30,3 +30,10 @@ pub fn race<const N: usize>(mut sides: [Side; N]) -> [f64; N] {
     }
     best
 }
+
+/// How long one call takes that is too long for many.
+pub fn once(call: impl FnOnce()) -> Duration {
+    let start = Instant::now();
+    call();
+    start.elapsed()
+}

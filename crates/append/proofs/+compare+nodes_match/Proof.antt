@@ -4,7 +4,7 @@ use mathlib.Core.Path.{_≡_, refl, sym, _∙_}
 use lib.ListN.{length}
 use borrow.Author.Tests.{not-true, not-false}
 use Rattle.table.proofs.Stretches.{falls-first}
-use Rattle.append.proofs.Matching.{pairs-none, Left, alike-other, alike-unsuited, left-start, left-no, left-next, matches-alike, sound-marking}
+use Rattle.append.proofs.Matching.{pairs-none, Left, alike-other, alike-unsuited, left-start, left-no, left-next, as-long, matches-alike, row-fits, pair-fits, pair-inside, sound-marking}
 use native.Mathlib.Omega.{arith}
 use borrow.Author.Needs.{needs}
 use Prim.Native.Nat.{ℕ, _+_, _<_}
@@ -118,13 +118,9 @@ compare-nodes-match-requires t c κs =
     let below = falls-first (here .news) some in (
       omega (arith, c .before .before .before .before .before .before .before .before .before .before .before .before .before .before .before .before .before .pre .0),
       record {
-        old = asked .old;
-        new = asked .new;
-        few-old = asked .few-old;
-        few-new = asked .few-new;
+        begun = as-long (asked .begun) (c .before .before .before .before .loop .inv .1);
         left = omega (arith, asked .left);
         right = omega (arith, asked .right);
-        room = omega (arith, asked .room, c .before .before .before .before .loop .inv .1);
         sound = here .sound;
       },
     )
@@ -165,20 +161,20 @@ compare-returns-4 t c =
     record { answer = pairs-none _ _ _ _ _ _ _ (omega arith) ∙ here .same; sound = here .sound }
 
 nodes-match-mul-pair : (t : ℕ) → nodes-match-lts.Need-mul-pair (nodes-match-calls t) (nodes-match-at t) nodes-match.Post
-nodes-match-mul-pair t c = search needs
+nodes-match-mul-pair t c = record { fits = row-fits (c .before .before .before .before .pre .1) }
 
 nodes-match-add-pair : (t : ℕ) → nodes-match-lts.Need-add-pair (nodes-match-calls t) (nodes-match-at t) nodes-match.Post
-nodes-match-add-pair t c = search needs
+nodes-match-add-pair t c = record { fits = pair-fits (c .before .before .before .before .pre .1) }
 
 nodes-match-is-marked-requires : (t : ℕ) → nodes-match-lts.Need-is-marked-requires (nodes-match-calls t) (nodes-match-at t) nodes-match.Post
-nodes-match-is-marked-requires t c κs = search needs
+nodes-match-is-marked-requires t c κs = pair-inside (c .before .before .before .before .before .pre .1)
 
 nodes-match-same-length : (t : ℕ) → nodes-match-lts.Need-same-length (nodes-match-calls t) (nodes-match-at t) nodes-match.Post
 nodes-match-same-length t c = search needs
 
 nodes-match-returns : (t : ℕ) → nodes-match-lts.Need-returns (nodes-match-calls t) (nodes-match-at t) nodes-match.Post
 nodes-match-returns t c =
-    let asked = c .before .before .before .before .before .before .pre .1 in
+    let asked = c .before .before .before .before .before .before .before .pre .1 in
     record {
       answer = sym (asked .sound .found _ _ (asked .left) (asked .right) (sym (c .before .is-marked .ensures) ∙ c .if1 .taken));
       sound = asked .sound;
@@ -189,21 +185,21 @@ nodes-match-kind-at-requires t c κs = search needs
 
 nodes-match-is-open-requires : (t : ℕ) → nodes-match-lts.Need-is-open-requires (nodes-match-calls t) (nodes-match-at t) nodes-match.Post
 nodes-match-is-open-requires t c κs =
-    let asked = c .before .before .before .before .before .before .before .pre .1 in
-    rw (c .kind-at .ensures) (asked .old .node-good _ (asked .left) .is-kind)
+    let asked = c .before .before .before .before .before .before .before .before .pre .1 in
+    rw (c .kind-at .ensures) (asked .begun .old .node-good _ (asked .left) .is-kind)
 
 nodes-match-compare-requires : (t : ℕ) → nodes-match-lts.Need-compare-requires (nodes-match-calls t) (nodes-match-at t) nodes-match.Post
 nodes-match-compare-requires t c κs = search needs
 
 nodes-match-mark-requires : (t : ℕ) → nodes-match-lts.Need-mark-requires (nodes-match-calls t) (nodes-match-at t) nodes-match.Post
-nodes-match-mark-requires t c κs = search needs
+nodes-match-mark-requires t c κs = rw (c .before .before .before .before .compare .kept .1 .1 .1 .1 .1 .1 .1 .0) (pair-inside (c .before .before .before .before .before .before .before .before .before .before .before .before .before .before .before .pre .1))
 
 nodes-match-same-length-2 : (t : ℕ) → nodes-match-lts.Need-same-length-2 (nodes-match-calls t) (nodes-match-at t) nodes-match.Post
 nodes-match-same-length-2 t c = search needs
 
 nodes-match-returns-2 : (t : ℕ) → nodes-match-lts.Need-returns-2 (nodes-match-calls t) (nodes-match-at t) nodes-match.Post
 nodes-match-returns-2 t c =
-    let asked = c .before .before .before .before .before .before .before .before .before .before .before .before .before .before .before .before .before .pre .1 in
+    let asked = c .before .before .before .before .before .before .before .before .before .before .before .before .before .before .before .before .before .before .pre .1 in
     let told = c .before .before .before .before .before .before .before .compare .ensures in
     let found = sym (c .before .before .before .before .if2 .taken) ∙ told .answer ∙ matches-alike asked (c .before .before .before .before .before .before .before .before .before .before .kind-at .ensures) (c .before .before .before .before .before .before .before .before .before .is-open .ensures) in
     record {
@@ -218,7 +214,7 @@ nodes-match-returns-3 : (t : ℕ) → nodes-match-lts.Need-returns-3 (nodes-matc
 nodes-match-returns-3 t c =
     let told = c .before .before .before .compare .ensures in
     record {
-      answer = sym (c .if2 .left) ∙ told .answer ∙ matches-alike (c .before .before .before .before .before .before .before .before .before .before .before .before .before .pre .1) (c .before .before .before .before .before .before .kind-at .ensures) (c .before .before .before .before .before .is-open .ensures);
+      answer = sym (c .if2 .left) ∙ told .answer ∙ matches-alike (c .before .before .before .before .before .before .before .before .before .before .before .before .before .before .pre .1) (c .before .before .before .before .before .before .kind-at .ensures) (c .before .before .before .before .before .is-open .ensures);
       sound = told .sound;
     }
 

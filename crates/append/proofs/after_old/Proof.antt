@@ -18,17 +18,20 @@ enum-known-layout c = search needs
 
 roots-append-requires : tie.Need-roots-append-requires
 roots-append-requires c κs =
-    let old = c .before .before .before .before .before .before .pre in
-    let new = sym (c .before .before .before .check .ensures) ∙ c .before .layout .given .1 in
-    ((old .0, good-table _ _ new), (old .1, within-limits _ _ new))
+    let pre = c .before .before .before .before .before .before .before .before .pre in
+    let good = sym (c .before .before .before .before .check .ensures) ∙ c .before .before .layout .given .1 in
+    record { old = pre .0 .0; new = good-table _ _ good; few-old = pre .0 .1; few-new = within-limits _ _ good; room = pre .1 }
 
 returns : tie.Need-returns
 unfolding askBy
 returns c = rw (sym (c .before .before .before .check .ensures) ∙ c .before .why .given .1)
 
+same-length : tie.Need-same-length
+same-length c = search needs
+
 returns-2 : tie.Need-returns-2
 unfolding askBy
-returns-2 c = rw (sym (c .before .before .before .before .check .ensures) ∙ c .before .before .layout .given .1, c .roots-append .ensures)
+returns-2 c = rw (sym (c .before .before .before .before .before .before .before .check .ensures) ∙ c .before .before .before .before .before .layout .given .1, c .before .before .roots-append .ensures .answer)
 
 pub after-old-spec : {M : Type 1} → statement M
 after-old-spec =
@@ -39,4 +42,5 @@ after-old-spec =
     enum-known-layout
     roots-append-requires
     returns
+    same-length
     returns-2)

@@ -1,35 +1,27 @@
--- `append::appends` meets its contract: what the check says of the old table decides.
+-- `append::appends` meets its contract: an area that is too short is refused before all else.
 -- Assumes nothing.
-use mathlib.Core.Path.{sym, _∙_}
-use Rattle.wire.specs.Answers.{askBy, asks}
-use Rattle.laws.proofs.Tables.{good-table, within-limits}
+use mathlib.Core.Path.{sym}
+use native.Mathlib.Omega.{arith}
+use Rattle.laws.proofs.Areas.{area-bytes, area-short, asks-short}
 use borrow.Author.Needs.{needs}
 use Rattle.append.proofs.appends.Statement.{statement}
 use Rattle.append.proofs.appends.Tie as tie
 
-check-requires : tie.Need-check-requires
-check-requires c κs = search needs
+ask-and-clear-requires : tie.Need-ask-and-clear-requires
+ask-and-clear-requires c κs = (area-bytes, c .before .if1 .taken)
 
-enum-known-why : tie.Need-enum-known-why
-enum-known-why c = search needs
-
-enum-known-layout : tie.Need-enum-known-layout
-enum-known-layout c = search needs
-
-after-old-requires : tie.Need-after-old-requires
-after-old-requires c κs =
-    let good = sym (c .before .before .before .check .ensures) ∙ c .before .layout .given .1 in
-    (good-table _ _ good, within-limits _ _ good)
+same-length : tie.Need-same-length
+same-length c = search needs
 
 returns : tie.Need-returns
-unfolding askBy asks
-returns c = rw (sym (c .before .before .before .check .ensures) ∙ c .before .why .given .1)
+returns c = search needs
 
 returns-2 : tie.Need-returns-2
-unfolding asks
-returns-2 c = rw (sym (c .before .before .before .before .check .ensures) ∙ c .before .before .layout .given .1) (c .after-old .ensures)
+returns-2 c =
+    let shorter = c .if1 .left in record {
+      answered = sym (asks-short _ _ _ (omega (arith, area-bytes)));
+      stored = sym (area-short _ (omega (arith, area-bytes)));
+    }
 
 pub appends-spec : {M : Type 1} → statement M
-appends-spec =
-    tie.close
-    (tie.spec check-requires enum-known-why enum-known-layout after-old-requires returns returns-2)
+appends-spec = tie.close (tie.spec ask-and-clear-requires same-length returns returns-2)

@@ -1,30 +1,23 @@
--- `parting::find` meets its contract: what the check says of the old table decides.
+-- `parting::find` meets its contract: an area that is too short is refused before all else.
 -- Assumes nothing.
-use mathlib.Core.Path.{sym, _∙_}
-use Rattle.parting.proofs.Promise.{refused-old}
+use native.Mathlib.Omega.{arith}
+use Rattle.laws.proofs.Areas.{area-bytes}
+use Rattle.parting.proofs.Promise.{finds-short}
 use borrow.Author.Needs.{needs}
 use Rattle.parting.proofs.find.Statement.{statement}
 use Rattle.parting.proofs.find.Tie as tie
 
-check-requires : tie.Need-check-requires
-check-requires c κs = search needs
+find-and-clear-requires : tie.Need-find-and-clear-requires
+find-and-clear-requires c κs = (area-bytes, c .before .before .if1 .taken)
 
-enum-known-why : tie.Need-enum-known-why
-enum-known-why c = search needs
-
-enum-known-layout : tie.Need-enum-known-layout
-enum-known-layout c = search needs
-
-after-old-requires : tie.Need-after-old-requires
-after-old-requires c κs = sym (c .before .before .before .before .check .ensures) ∙ c .before .before .layout .given .1
+same-length : tie.Need-same-length
+same-length c = search needs
 
 returns : tie.Need-returns
-returns c = refused-old _ _ _ (sym (c .before .before .before .check .ensures) ∙ c .before .why .given .1)
+returns c = search needs
 
 returns-2 : tie.Need-returns-2
-returns-2 c = search needs
+returns-2 c = let shorter = c .if1 .left in finds-short _ _ _ _ (omega (arith, area-bytes))
 
 pub find-spec : {M : Type 1} → statement M
-find-spec =
-    tie.close
-    (tie.spec check-requires enum-known-why enum-known-layout after-old-requires returns returns-2)
+find-spec = tie.close (tie.spec find-and-clear-requires same-length returns returns-2)

@@ -1,41 +1,73 @@
--- `table::check` meets its contract: its tests are the definition's, in their order.
+-- `table::check` meets its contract: a trailer of the first form is tried, and what has none is the second's or no table.
 -- Assumes nothing.
 use mathlib.Core.Path.{sym, ap, subst, _∙_}
 use native.Mathlib.Omega.{arith}
 use borrow.Author.Needs.{needs}
-use Rattle.wire.specs.Table.{checkFrom}
+use Rattle.wire.specs.Table.{first, sizeOf, checkFrom}
 use Rattle.table.specs.Parts.{Inside}
-use Rattle.table.proofs.Trailers.{layout-inside}
-use Rattle.table.proofs.Checks.{check-short, check-bad, check-good}
+use Rattle.table.proofs.Trailers.{fits-first, inside, layout-inside}
+use Rattle.table.proofs.Checks.{check-short, check-bad, check-good, first-good, first-bad}
 use Rattle.table.proofs.check.Statement.{statement}
 use Rattle.table.proofs.check.Tie as tie
 
+check-second-requires : tie.Need-check-second-requires
+check-second-requires c κs = search needs
+
 returns : tie.Need-returns
-returns c = check-short _ (c .if1 .taken)
+unfolding sizeOf
+returns c = c .anew .ensures ∙ c .before .check-second .ensures ∙ first-bad _ (check-short first _ (c .before .before .if1 .taken))
+
+anew-requires : tie.Need-anew-requires
+anew-requires c κs = search needs
+
+first-ending-requires : tie.Need-first-ending-requires
+first-ending-requires c κs = search needs
 
 good-trailer-requires : tie.Need-good-trailer-requires
 good-trailer-requires c κs = search needs
 
 layout-at-requires : tie.Need-layout-at-requires
-layout-at-requires c κs = (omega arith, sym (c .before .good-trailer .ensures) ∙ c .if2 .taken)
+layout-at-requires c κs = inside first _ _ (sym (fits-first _ _) ∙ sym (c .before .good-trailer .ensures) ∙ c .if2 .taken)
 
-check-nodes-requires : tie.Need-check-nodes-requires
-check-nodes-requires c κs = subst (Inside _) (sym (c .layout-at .ensures)) (layout-inside _ _ (omega arith) (sym (c .before .before .good-trailer .ensures) ∙ c .before .if2 .taken))
+first-bad-requires : tie.Need-first-bad-requires
+first-bad-requires c κs = subst (Inside _) (sym (c .layout-at .ensures)) (layout-inside first _ _ (sym (fits-first _ _) ∙ sym (c .before .before .good-trailer .ensures) ∙ c .before .if2 .taken) _ (omega arith))
+
+answer-requires : tie.Need-answer-requires
+answer-requires c κs = search needs
 
 returns-2 : tie.Need-returns-2
-returns-2 c = c .check-nodes .ensures ∙ ap (λ l. checkFrom (c .before .before .before .before .before .before .args .table .now) l 0 (l .nodes)) (c .before .layout-at .ensures)
-    ∙ check-good _ (omega arith) (sym (c .before .before .if2 .taken) ∙ c .before .before .before .good-trailer .ensures)
+unfolding sizeOf
+returns-2 c = let t = c .before .before .before .before .before .first-ending .ensures .0 in
+    let good = sym (c .before .before .before .if2 .taken) ∙ c .before .before .before .before .good-trailer .ensures ∙ fits-first _ _ in
+    c .answer .ensures ∙ sym (c .before .first-bad .ensures) ∙ ap (λ l. checkFrom first (c .before .before .before .before .before .before .before .before .args .table .now) l 0 (l .nodes)) (c .before .before .layout-at .ensures)
+    ∙ check-good first _ _ (omega arith) _ t good ∙ first-good _ _ (omega arith) (rw t at (sym good))
+
+check-second-requires-2 : tie.Need-check-second-requires-2
+check-second-requires-2 c κs = search needs
+
+anew-requires-2 : tie.Need-anew-requires-2
+anew-requires-2 c κs = search needs
 
 returns-3 : tie.Need-returns-3
-returns-3 c = check-bad _ (omega arith) (sym (c .if2 .left) ∙ c .before .good-trailer .ensures)
+unfolding sizeOf
+returns-3 c =
+    let b = c .before .before in
+    c .anew2 .ensures ∙ c .before .check-second2 .ensures
+    ∙ first-bad _ (check-bad first _ _ (omega arith) _ (b .before .before .first-ending .ensures .0) (sym (b .if2 .left) ∙ b .before .good-trailer .ensures ∙ fits-first _ _))
 
 pub check-spec : {M : Type 1} → statement M
 check-spec =
     tie.close
     (tie.spec
+    check-second-requires
+    anew-requires
     returns
+    first-ending-requires
     good-trailer-requires
     layout-at-requires
-    check-nodes-requires
+    first-bad-requires
+    answer-requires
     returns-2
+    check-second-requires-2
+    anew-requires-2
     returns-3)

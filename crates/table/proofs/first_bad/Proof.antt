@@ -4,13 +4,13 @@ use mathlib.Core.Path.{_≡_, sym, _∙_}
 use Prim.Native.Nat.{_+_, _-_, _≤_}
 use native.Mathlib.Omega.{arith}
 use borrow.Author.Tests.{not-true, not-false}
-use Rattle.wire.specs.Table.{recordOf, checkFrom}
+use Rattle.wire.specs.Table.{first, recordOf, goodIn, checkFrom}
 use Rattle.table.proofs.Checks.{from-none, from-no, from-next, bad-node, no-bad}
 use Rattle.table.proofs.first_bad.Statement.{statement}
 use Rattle.table.proofs.first_bad.Tie as tie
 
 abbrev Inv-loop : tie.InvT-loop
-Inv-loop table l i₀ at₀ i at = (checkFrom table l 0 (l .nodes) ≡ checkFrom table l i (l .nodes - i)) × (i ≤ l .nodes) × (at ≡ recordOf l i)
+Inv-loop table l i₀ at₀ i at = (checkFrom first table l 0 (l .nodes) ≡ checkFrom first table l i (l .nodes - i)) × (i ≤ l .nodes) × (at ≡ recordOf l i)
 
 abbrev μ-loop : tie.MeasureT-loop
 μ-loop table l i₀ at₀ i at = l .nodes - i
@@ -23,9 +23,10 @@ good-node-requires : tie.Need-good-node-requires Inv-loop μ-loop
 good-node-requires c κs = (c .before .before .before .before .pre, (omega arith, c .before .before .loop .inv .2))
 
 returns : tie.Need-returns Inv-loop μ-loop
+unfolding goodIn
 returns c =
     c .before .before .before .before .loop .inv .0
-    ∙ sym (from-no _ _ _ _ (omega arith) (sym (not-true _ (c .if2 .taken)) ∙ c .before .good-node .ensures))
+    ∙ sym (from-no _ _ _ _ _ (omega arith) (sym (not-true _ (c .if2 .taken)) ∙ c .before .good-node .ensures))
     ∙ bad-node _ _ (omega arith)
 
 add-i : tie.Need-add-i Inv-loop μ-loop
@@ -39,15 +40,15 @@ loop-less : tie.Need-loop-less Inv-loop μ-loop
 loop-less c = omega arith
 
 loop-again : tie.Need-loop-again Inv-loop μ-loop
-unfolding recordOf
+unfolding recordOf goodIn
 loop-again c =
     let b = c .before .before .before .before in
     let n = b .before .before .args .l .nodes in
     let e : n - (b .loop .i + 1) ≡ n - b .loop .i - 1 = omega arith in
-    (b .loop .inv .0 ∙ rw e (from-next _ _ _ _ (omega arith) (sym (not-false _ (c .if2 .left)) ∙ c .before .good-node .ensures)), omega arith, omega arith)
+    (b .loop .inv .0 ∙ rw e (from-next _ _ _ _ _ (omega arith) (sym (not-false _ (c .if2 .left)) ∙ c .before .good-node .ensures)), omega arith, omega arith)
 
 returns-2 : tie.Need-returns-2 Inv-loop μ-loop
-returns-2 c = c .before .before .loop .inv .0 ∙ sym (from-none _ _ _ _ (omega arith)) ∙ no-bad _ _ (omega arith)
+returns-2 c = c .before .before .loop .inv .0 ∙ sym (from-none _ _ _ _ _ (omega arith)) ∙ no-bad _ _ (omega arith)
 
 pub first-bad-spec : {M : Type 1} → statement M
 first-bad-spec =

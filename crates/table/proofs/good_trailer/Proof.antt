@@ -1,62 +1,39 @@
--- `table::good_trailer` meets its contract: with the mark the numbers decide.
+-- `table::good_trailer` meets its contract: a test that fails leaves no way for all to hold, and the last one decides.
 -- Assumes nothing.
-use mathlib.Core.Path.{_∙_}
 use native.Mathlib.Omega.{arith}
 use borrow.Author.Needs.{needs}
-use Rattle.table.proofs.Trailers.{marked, unmarked}
+use Rattle.table.proofs.Trailers.{fits-no, fits-last}
 use Rattle.table.proofs.good_trailer.Statement.{statement}
 use Rattle.table.proofs.good_trailer.Tie as tie
 
-u16-at-requires : tie.Need-u16-at-requires
-u16-at-requires c κs = search needs
-
-add-u16-at : tie.Need-add-u16-at
-add-u16-at c = search needs
-
-u16-at-requires-2 : tie.Need-u16-at-requires-2
-u16-at-requires-2 c κs = search needs
-
-add-u16-at-2 : tie.Need-add-u16-at-2
-add-u16-at-2 c = search needs
-
-u16-at-requires-3 : tie.Need-u16-at-requires-3
-u16-at-requires-3 c κs = search needs
-
-add-u16-at-3 : tie.Need-add-u16-at-3
-add-u16-at-3 c = search needs
-
-u16-at-requires-4 : tie.Need-u16-at-requires-4
-u16-at-requires-4 c κs = search needs
-
-add-u16-at-4 : tie.Need-add-u16-at-4
-add-u16-at-4 c = search needs
-
-u16-at-requires-5 : tie.Need-u16-at-requires-5
-u16-at-requires-5 c κs = search needs
-
-good-numbers-requires : tie.Need-good-numbers-requires
-good-numbers-requires c κs = search needs
-
 returns : tie.Need-returns
-returns c = c .good-numbers .ensures
-    ∙ simp (c .before .before .before .u16-at4 .ensures .0, c .before .before .before .before .u16-at3 .ensures .0, c .before .before .before .before .before .u16-at2 .ensures .0, c .before .before .before .before .before .before .u16-at .ensures .0) (marked _ _ (omega arith))
+returns c = fits-no _ _ _ _ _ (λ t. omega (arith, t .0, t .1))
 
 returns-2 : tie.Need-returns-2
-returns-2 c = unmarked _ _ (λ h. omega arith)
+returns-2 c = fits-no _ _ _ _ _ (λ t. omega (arith, t .0, t .1))
+
+returns-3 : tie.Need-returns-3
+returns-3 c = fits-no _ _ _ _ _ (λ t. omega (arith, t .0, t .1))
+
+returns-4 : tie.Need-returns-4
+returns-4 c = fits-no _ _ _ _ _ (λ t. omega (arith, t .0, t .1))
+
+returns-5 : tie.Need-returns-5
+returns-5 c = fits-no _ _ _ _ _ (λ t. omega (arith, t .0, t .1))
+
+mul-if6 : tie.Need-mul-if6
+mul-if6 c = search needs
+
+add-if6 : tie.Need-add-if6
+add-if6 c = search needs
+
+returns-6 : tie.Need-returns-6
+returns-6 c = fits-no _ _ _ _ _ (λ t. omega (arith, t .0, t .1))
+
+returns-7 : tie.Need-returns-7
+returns-7 c = fits-last _ _ _ _ _ (λ h. (omega arith, omega arith))
 
 pub good-trailer-spec : {M : Type 1} → statement M
 good-trailer-spec =
     tie.close
-    (tie.spec
-    u16-at-requires
-    add-u16-at
-    u16-at-requires-2
-    add-u16-at-2
-    u16-at-requires-3
-    add-u16-at-3
-    u16-at-requires-4
-    add-u16-at-4
-    u16-at-requires-5
-    good-numbers-requires
-    returns
-    returns-2)
+    (tie.spec returns returns-2 returns-3 returns-4 returns-5 mul-if6 add-if6 returns-6 returns-7)

@@ -22,6 +22,9 @@ refusal-requires c κs = search needs
 side-requires : tie.Need-side-requires
 side-requires c κs = search needs
 
+enum-told : tie.Need-enum-told
+enum-told c = search needs
+
 returns : tie.Need-returns
 unfolding askSays done which
 returns c = rw (c .before .before .answer .given .1) (record { number = refl; place = refl; last = c .yes .ensures })
@@ -29,6 +32,10 @@ returns c = rw (c .before .before .answer .given .1) (record { number = refl; pl
 returns-2 : tie.Need-returns-2
 unfolding askSays numbered which
 returns-2 c = rw (c .before .before .before .answer2 .given .1) (record { number = c .before .refusal .ensures; place = refl; last = c .side .ensures })
+
+returns-3 : tie.Need-returns-3
+unfolding askSays which
+returns-3 c = rw (c .enum-told .given .1) (record { number = refl; place = refl; last = refl })
 
 pub ask-told-spec : {M : Type 1} → statement M
 ask-told-spec =
@@ -39,5 +46,7 @@ ask-told-spec =
     enum-known-answer-2
     refusal-requires
     side-requires
+    enum-told
     returns
-    returns-2)
+    returns-2
+    returns-3)

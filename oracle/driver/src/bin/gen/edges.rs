@@ -3,6 +3,7 @@
 use crate::forms::{odd_chars, odd_texts, odd_varints};
 use crate::tables::{leaf, rooted, with, LEAVES};
 use crate::{Gen, Go};
+use oracle_driver::append::AREA;
 use oracle_driver::model::{shortest, W16, W32, W64};
 use oracle_driver::table::*;
 use oracle_driver::WORDS;
@@ -11,7 +12,9 @@ impl Gen {
     pub fn edges(&mut self) -> Go {
         self.readings_at_the_edge()?;
         self.writes_at_the_edge()?;
-        self.tables_at_the_edge()?;
+        self.tables_at_the_edge(FIRST)?;
+        self.tables_at_the_edge(SECOND)?;
+        self.chains_at_the_edge()?;
         self.appends_at_the_edge()?;
         self.feeds_at_the_edge()
     }
@@ -296,7 +299,7 @@ impl Gen {
     }
 
     /// Tables at the edge of good, each way to be bad, and what comes first.
-    fn tables_at_the_edge(&mut self) -> Go {
+    fn tables_at_the_edge(&mut self, form: Form) -> Go {
         let t = rooted(vec![
             leaf(U8),
             leaf(UNIT),
@@ -308,7 +311,7 @@ impl Gen {
             leaf(STRUCT),
         ]);
         let t = Table { root: 6, ..t };
-        let file = t.file();
+        let file = t.file_in(form);
         let ask = |g: &mut Gen, f: &[u8]| -> Go {
             g.read(f, &[1, 0, 0, 0], 8)?;
             g.write_list(f, &[[0, 0], [0, 0]], &[], 4)?;
@@ -336,16 +339,16 @@ impl Gen {
                 ask(self, &f)?;
             }
         }
-        // n = 256 and 257; C = 2048 and 2050, the list full, a + b exactly C/2 and one over.
-        for n in [256, 257] {
+        // Most nodes and one more; most places and one more, the list full, a + b exactly C/2 and one over.
+        for n in [form.nodes, form.nodes + 1] {
             let nodes = vec![leaf(U8); n];
             for root in [0, 255, n - 1, n] {
-                ask(self, &Table { nodes: nodes.clone(), root }.file())?;
+                ask(self, &Table { nodes: nodes.clone(), root }.file_in(form))?;
             }
         }
-        for len in [1024usize, 1025] {
+        for len in [form.places, form.places + 1] {
             let t = rooted(vec![leaf(UNIT), with(STRUCT, &vec![0; len])]);
-            let file = t.file();
+            let file = t.file_in(form);
             self.read(&file, &[], 2000)?;
             self.read(&file, &[], 3)?;
             for b in [len as u16 - 1, len as u16, len as u16 + 1, u16::MAX] {
@@ -359,21 +362,63 @@ impl Gen {
         }
         // Two bad things at once: the first node counts; the trailer before any record;
         // an unreachable bad node counts too; junk in the list that no node names does not.
-        let mut f = Table { nodes: vec![leaf(32), leaf(U8), leaf(33)], root: 1 }.file();
+        let mut f = Table { nodes: vec![leaf(32), leaf(U8), leaf(33)], root: 1 }.file_in(form);
         ask(self, &f)?;
         f[0] = U8;
         ask(self, &f)?;
         f[12] = U8;
         ask(self, &f)?;
-        ask(self, &t.file_with(&[0xFFFF, 300], &[]))?;
+        ask(self, &t.file_with(form, &[0xFFFF, 300], &[]))?;
         for (first, second) in [(OPTION, 1u16), (OPTION, 0), (SEQ, 1), (MAP, 1), (STRUCT, 0), (ENUM, 0)] {
             // A first node can have no children.
             for b in [0u16, 1] {
-                let mut f = Table { nodes: vec![leaf(first.min(UNIT)), leaf(U8)], root: 1 }.file();
+                let mut f = Table { nodes: vec![leaf(first.min(UNIT)), leaf(U8)], root: 1 }.file_in(form);
                 f[0] = first;
                 f[2..4].copy_from_slice(&second.to_le_bytes());
                 f[4..6].copy_from_slice(&b.to_le_bytes());
                 ask(self, &f)?;
+            }
+        }
+        Ok(())
+    }
+
+    /// Chains as long as they may be and longer, through every kind that has children; the place of a longer one; and
+    /// what a record that is bad besides does to it.
+    fn chains_at_the_edge(&mut self) -> Go {
+        let below = |kind: u8, i: usize| match kind {
+            OPTION | SEQ => with(kind, &[i]),
+            MAP => with(MAP, &[0, i]),
+            _ => with(kind, &[0, i, 0]),
+        };
+        for kinds in [&[OPTION][..], &[SEQ], &[MAP], &[STRUCT], &[ENUM], &[STRUCT, MAP, ENUM, OPTION, SEQ]] {
+            for first in [leaf(BOOL), leaf(STRUCT)] {
+                let mut t = rooted(vec![first]);
+                for i in 0..=CHAIN {
+                    t.nodes.push(below(kinds[i % kinds.len()], i));
+                    t.root = i + 1;
+                    if t.nodes.len() < CHAIN - 1 {
+                        continue;
+                    }
+                    let file = t.file_in(SECOND);
+                    for room in [CHAIN, CHAIN - 1, 3] {
+                        self.read(&file, &[1; CHAIN + 1], room as u64)?;
+                    }
+                    self.write_list(&file, &[[1, 0]; 4], &[], 4)?;
+                    self.append(&file, &file)?;
+                    // The root isn't in the chain.
+                    let apart = Table { root: 0, ..t.clone() }.file_in(SECOND);
+                    self.read(&apart, &[1], 2)?;
+                    self.append(&apart, &file)?;
+                    self.append(&file, &apart)?;
+                    self.append(&Table::leaf(BOOL).file(), &apart)?;
+                }
+                let file = t.file_in(SECOND);
+                for bad in [CHAIN - 1, CHAIN, CHAIN + 1] {
+                    let mut f = file.clone();
+                    f[6 * bad] = 99;
+                    self.read(&f, &[1], 2)?;
+                    self.append(&f, &file)?;
+                }
             }
         }
         Ok(())
@@ -412,18 +457,24 @@ impl Gen {
         ];
         for old in &small {
             for new in &small {
-                self.append(&old.file(), &new.file())?;
+                for (one, other) in [(FIRST, FIRST), (FIRST, SECOND), (SECOND, FIRST), (SECOND, SECOND)] {
+                    self.append(&old.file_in(one), &new.file_in(other))?;
+                }
             }
         }
-        // Answer order over both tables: bad trailer and bad record on either side.
-        let good = small[3].file();
-        let bad1 = &good[..good.len() - 1];
-        let mut bad2 = good.clone();
-        bad2[0] = 99;
-        let all = [&good[..], bad1, &bad2[..]];
-        for old in all {
-            for new in all {
-                self.append(old, new)?;
+        // Answer order over both tables and the area: bad trailer and bad record on either side, an area too short.
+        let mut all = vec![];
+        for form in [FIRST, SECOND] {
+            let good = small[3].file_in(form);
+            all.push(good[..good.len() - 1].to_vec());
+            all.push([&[99], &good[1..]].concat());
+            all.push(good);
+        }
+        for old in &all {
+            for new in &all {
+                for area in [0, AREA - 1, AREA, AREA + 1, AREA + 4_096] {
+                    self.append_with(old, new, area)?;
+                }
             }
         }
         Ok(())

@@ -1,6 +1,6 @@
 //! `gen SEED COUNT` prints COUNT request lines for `oracle` (PROTOCOL.md), always the same
 //! ones for the same seed: first a fixed part of edge cases, then random rounds.
-//! `gen SEED COUNT strict` prints strict reads alone; more than a third of them meet a padded varint and are 16.
+//! `gen SEED COUNT strict` prints strict reads alone; more than a third of their answers are 16.
 
 mod edges;
 mod forms;
@@ -8,6 +8,7 @@ mod padded;
 mod rounds;
 mod tables;
 
+use oracle_driver::append::AREA;
 use oracle_driver::proto::{hex, words_text};
 use oracle_driver::rng::Rng;
 use oracle_driver::WORDS;
@@ -67,8 +68,17 @@ impl Gen {
     fn write(&mut self, file: &[u8], words: &[u64], pool: &[u8], out_len: usize) -> Go {
         self.line('W', format_args!("{} {} {} {out_len:x}", hex(file), words_text(words), hex(pool)))
     }
+    /// Mostly with an area of just the bytes it needs.
     fn append(&mut self, old: &[u8], new: &[u8]) -> Go {
-        self.line('A', format_args!("{} {}", hex(old), hex(new)))
+        let area = match self.rng.below(16) {
+            0 => *self.rng.pick(&[0, 1, AREA / 2, AREA - 1]),
+            1 => AREA + self.rng.from_to(1, 4_096),
+            _ => AREA,
+        };
+        self.append_with(old, new, area)
+    }
+    fn append_with(&mut self, old: &[u8], new: &[u8], area: usize) -> Go {
+        self.line('A', format_args!("{} {} {area:x}", hex(old), hex(new)))
     }
     fn feed(&mut self, idx: u64, array: &[u8], chunk: &[u8]) -> Go {
         self.line('F', format_args!("{idx:x} {} {}", hex(array), hex(chunk)))

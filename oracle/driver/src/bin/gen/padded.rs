@@ -81,7 +81,7 @@ impl Gen {
         let t = self.table();
         let file = self.file(&t);
         if self.rng.chance(4) {
-            self.bad_tables(&file)?;
+            self.bad_tables(&file, 8)?;
         }
         let left = self.left;
         let Some(sample) = self.reads(&t, &file)? else { return Ok(()) };

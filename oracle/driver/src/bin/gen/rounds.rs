@@ -16,12 +16,15 @@ pub struct Sample {
 
 impl Gen {
     pub fn round(&mut self) -> Go {
+        if self.rng.chance(40) {
+            self.large_round()?;
+        }
         let t = self.table();
         let file = self.file(&t);
         if let Some(Sample { entries, pool, message }) = self.reads(&t, &file)? {
             self.writes(&file, &entries, &pool, message.len())?;
         }
-        self.bad_tables(&file)?;
+        self.bad_tables(&file, 8)?;
         for _ in 0..6 {
             self.appends(&t, &file)?;
         }
@@ -38,10 +41,43 @@ impl Gen {
         Ok(())
     }
 
+    /// Few requests, since each is long: a table of any size, with chains as long as they may be, and too long.
+    fn large_round(&mut self) -> Go {
+        let most = *self.rng.pick(&[300, 600, 1_200, 2_400, SECOND.nodes]);
+        let n = self.rng.from_to(most / 2, most);
+        let chain = *self.rng.pick(&[2, 5, 40, CHAIN - 1, CHAIN, CHAIN, CHAIN + 1, CHAIN + 40]);
+        let mut t = self.table_of(n, SECOND.places - 10, chain);
+        // A root whose values aren't too large, if one is met.
+        let min = fewest(&t);
+        t.root = (0..40).map(|_| self.rng.below(n)).find(|&i| (3..300).contains(&min[i])).unwrap_or(n - 1);
+        let file = self.file(&t);
+        for len in [0, 3, 30] {
+            let m = self.odd_bytes(len);
+            self.read(&file, &m, 40)?;
+        }
+        if let Some(Sample { entries, pool, message }) = self.sample(&t) {
+            let count = entries.len() as u64;
+            self.read(&file, &message, count)?;
+            self.read(&file, &message[..message.len() / 2], count)?;
+            self.write(&file, &entries.concat(), &pool, message.len())?;
+        }
+        self.bad_tables(&file, 2)?;
+        for _ in 0..3 {
+            self.appends(&t, &file)?;
+        }
+        Ok(())
+    }
+
     pub fn table(&mut self) -> Table {
         let most = *self.rng.pick(&[1, 2, 3, 4, 6, 8, 12, 20, 60, 256]);
         let n = self.rng.from_to(1, most);
+        self.table_of(n, 1_000, CHAIN)
+    }
+
+    /// So many nodes, at most so many places in the child list, and chains up to so long.
+    fn table_of(&mut self, n: usize, most_places: usize, most_chain: usize) -> Table {
         let mut nodes: Vec<Node> = vec![];
+        let mut chains: Vec<usize> = vec![];
         let mut places = 0;
         for i in 0..n {
             let last = i + 1 == n;
@@ -59,16 +95,20 @@ impl Gen {
                     STRUCT => self.rng.below(6),
                     _ => self.rng.from_to(1, 5),
                 };
-                let kids = if self.rng.chance(40) && kind >= STRUCT { 130 } else { kids };
+                let kids = if self.rng.chance(40) && kind >= STRUCT { most_places.min(1_300) / 10 } else { kids };
                 if kind >= STRUCT {
                     places += kids;
                 }
-                if places > 1000 {
+                if places > most_places {
                     leaf(U8)
                 } else {
-                    Node { kind, kids: (0..kids).map(|_| self.earlier(i)).collect() }
+                    let kids = (0..kids).map(|_| self.earlier(i));
+                    // Node 0 is always a leaf.
+                    let kids = kids.map(|k| if chains[k] < most_chain { k } else { 0 }).collect();
+                    Node { kind, kids }
                 }
             };
+            chains.push(1 + node.kids.iter().map(|&k| chains[k]).max().unwrap_or(0));
             nodes.push(node);
         }
         let root = if self.rng.chance(6) { self.rng.below(n) } else { n - 1 };
@@ -84,7 +124,7 @@ impl Gen {
         }
     }
 
-    /// A file of the table with a note and junk in the list, at random.
+    /// A file of the table with a note and junk in the list, at random, and of either form if the first has room.
     pub fn file(&mut self, t: &Table) -> Vec<u8> {
         let mut list = vec![];
         if self.rng.chance(4) {
@@ -92,7 +132,10 @@ impl Gen {
         }
         let note = if self.rng.chance(4) { self.rng.below(20) } else { 0 };
         let note = self.rng.bytes(note);
-        t.file_with(&list, &note)
+        let named = t.nodes.iter().filter(|node| node.kind >= STRUCT).map(|node| node.kids.len());
+        let fits = t.nodes.len() <= FIRST.nodes && list.len() + named.sum::<usize>() <= FIRST.places;
+        let form = if fits && self.rng.chance(2) { FIRST } else { SECOND };
+        t.file_with(form, &list, &note)
     }
 
     pub fn odd_byte(&mut self) -> u8 {
@@ -198,6 +241,21 @@ impl Gen {
         }
     }
 
+    /// A value of the table, if it has one that isn't too large.
+    fn sample(&mut self, t: &Table) -> Option<Sample> {
+        let min = fewest(t);
+        if min[t.root] > 300 {
+            return None;
+        }
+        let (mut entries, mut pool) = (vec![], self.odd_bytes(2));
+        self.value(t, &min, t.root, &mut entries, &mut pool);
+        if entries.len() > 700 {
+            return None;
+        }
+        let message = write::write_good(t, &entries, &pool, 1 << 16).expect("a value of our own fits");
+        Some(Sample { entries, pool, message })
+    }
+
     /// Reads of odd bytes, and of what becomes of a value's wire form. None if the table has too large values only.
     pub fn reads(&mut self, t: &Table, file: &[u8]) -> Result<Option<Sample>, Enough> {
         for _ in 0..8 {
@@ -206,16 +264,7 @@ impl Gen {
             let room = *self.rng.pick(&[0, 1, 2, 3, 8, 40, 100]);
             self.read(file, &m, room)?;
         }
-        let min = fewest(t);
-        if min[t.root] > 300 {
-            return Ok(None);
-        }
-        let (mut entries, mut pool) = (vec![], self.odd_bytes(2));
-        self.value(t, &min, t.root, &mut entries, &mut pool);
-        if entries.len() > 700 {
-            return Ok(None);
-        }
-        let message = write::write_good(t, &entries, &pool, 1 << 16).expect("a value of our own fits");
+        let Some(Sample { entries, pool, message }) = self.sample(t) else { return Ok(None) };
         let count = entries.len() as u64;
 
         for room in [count, count + 1, count.saturating_sub(1), 0, count / 2] {
@@ -321,18 +370,19 @@ impl Gen {
         self.write(file, &words, &broken, out)
     }
 
-    pub fn bad_tables(&mut self, file: &[u8]) -> Go {
-        for _ in 0..8 {
+    pub fn bad_tables(&mut self, file: &[u8], times: usize) -> Go {
+        for _ in 0..times {
             let mut f = file.to_vec();
             let n = f.len();
-            match self.rng.below(5) {
+            match self.rng.below(6) {
                 0 => f = f[self.rng.below(n)..].to_vec(),
                 1 => f.truncate(self.rng.below(n)),
                 2 => {
-                    let p = n - 1 - self.rng.below(10);
+                    let p = n - 1 - self.rng.below(14);
                     f[p] = self.odd_byte();
                 }
-                3 => {
+                3 => f[n - 2] = FIRST.mark[0] ^ SECOND.mark[0] ^ f[n - 2],
+                4 => {
                     let p = self.rng.below(n);
                     f[p] = *self.rng.pick(&[0, 1, 2, 12, 15, 16, 17, 18, 19, 20, 31, 32, 255]);
                 }
@@ -385,7 +435,7 @@ impl Gen {
             _ => {}
         }
         // A node in front moves the numbers of all the others.
-        if self.rng.chance(2) && new.nodes.len() < 256 {
+        if self.rng.chance(2) && new.nodes.len() < SECOND.nodes {
             new.nodes.insert(0, leaf(*self.rng.pick(&LEAVES)));
             for node in &mut new.nodes {
                 node.kids.iter_mut().for_each(|k| *k += 1);

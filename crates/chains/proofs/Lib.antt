@@ -1,0 +1,3 @@
+-- The proofs of what specs/ states.
+pub mod Keeping
+pub mod Examples

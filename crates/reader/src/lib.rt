@@ -1,5 +1,6 @@
 // Reading a message by a table.
 use read_item::Entered;
+use read_item::Int;
 use wire::Checked;
 use wire::Layout;
 use wire::ReadAnswer;
@@ -66,21 +67,25 @@ fn read_item(
         };
     }
     let number = table::kind_at(table, l, node);
-    if read_item::is_int(number) {
-        if !strict {
-            let got = read_item::read_int(number, part, place, store, made);
-            // Made anew, so that it does not go through memory with other answers; so is the next one.
-            let ReadAnswer::Done {
-                place: behind,
-                count,
-            } = got
-            else {
-                return got;
-            };
-            return ReadAnswer::Done {
-                place: behind,
-                count,
-            };
+    if !strict {
+        let int = read_item::int_bytes(number, part);
+        match int {
+            Int::Is { item } => {
+                let got = read_item::lay(item, place, store, made);
+                // Made anew, so that it does not go through memory with other answers; so is the next one.
+                let ReadAnswer::Done {
+                    place: behind,
+                    count,
+                } = got
+                else {
+                    return got;
+                };
+                return ReadAnswer::Done {
+                    place: behind,
+                    count,
+                };
+            }
+            Int::Other => {}
         }
     }
     if table::is_inner(number) {

@@ -11,7 +11,7 @@ use borrow.Author.Tests.{leb-true, le-leb}
 use Rattle.wire.specs.Shape.{le, be, unit, Kind, plain, pooled, option, sequence, map, struct, enum}
 use Rattle.wire.specs.Walk.{each, following}
 use Rattle.wire.specs.Table.{kinds, kindOf}
-use Rattle.laws.specs.KindRanges.{isAlone, IsInt, isInt, IsInner, isInner, sixth}
+use Rattle.laws.specs.KindRanges.{isAlone, IsInner, isInner, sixth}
 use Rattle.laws.proofs.Splits.{by-test, by-lt, not-both, both-yes, both-left, both-right}
 use Rattle.laws.proofs.Rule.{at}
 
@@ -38,20 +38,6 @@ big-kind k l h = let e : 26 + (k - 26) ≡ k = omega arith in rw e at (six (k - 
 pub high-alone : (k : ℕ) → 20 ≤ k → k ≤ 31 → isAlone (kindOf k) ≡ true
 unfolding isAlone
 high-alone k l h = by-lt k 26 (λ b. rw (little-kind k l (omega arith))) (λ b. rw (big-kind k b h))
-
--- ---- the integers
-
-module _ (k : ℕ) where
-  pub is-int : isInt k ≡ true → IsInt k
-  unfolding isInt
-  is-int e = (leb-true 1 k (both-left (leb 1 k) (leb k 8) e), leb-true k 8 (both-right (leb 1 k) (leb k 8) e))
-
-  pub int-is : IsInt k → true ≡ isInt k
-  unfolding isInt
-  int-is h = sym (both-yes (leb 1 k) (leb k 8) (le-leb 1 k (h .0)) (le-leb k 8 (h .1)))
-
-  pub int-not : (IsInt k → ⊥) → false ≡ isInt k
-  int-not h = by-test (isInt k) (λ e. absurd (h (is-int e))) sym
 
 -- ---- the kinds that have children
 

@@ -17,12 +17,9 @@ isAlone map = false
 isAlone struct = false
 isAlone enum = false
 
--- the number of an integer's kind that isn't of fixed size, as a fact and as a test
+-- the number of an integer's kind that isn't of fixed size
 abbrev pub IsInt : ℕ → Type 0
 IsInt k = (1 ≤ k) × (k ≤ 8)
-
-unfoldable pub isInt : ℕ → Bool
-isInt k = both (leb 1 k) (leb k 8)
 
 -- the number of a kind that has children, as a fact and as a test
 abbrev pub IsInner : ℕ → Type 0

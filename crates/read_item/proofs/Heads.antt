@@ -27,7 +27,9 @@ use Rattle.laws.proofs.EachKind.{end, _&_, in-kinds, outer-kinds}
 use Rattle.entry.specs.Words.{withEntry}
 use Rattle.leaf.specs.Leaves.{takeAt}
 use Rattle.leaf.proofs.Leaves.{low-leaf, high-leaf, is-leaf, low-place}
-use Rattle.read_item.specs.Steps.{Puts, entry, same}
+use Rattle.read_item.specs.declared.Int.{Int}
+use Rattle.read_item.specs.declared.Int.the-variants.{Is}
+use Rattle.read_item.specs.Steps.{Ends, within, nowhere, TakesInt, is, Puts, entry, same}
 
 -- ---- a variant's number
 
@@ -44,16 +46,9 @@ module _ (n : ℕ) (i : Item) where
   unfolding known pick
   known-not p h = rw (p, le-ltb _ n h)
 
--- an integer's number that is none of the first seven, one after the other
-above : (k n : ℕ) → n ≤ k → (k ≡ n → ⊥) → suc n ≤ k
-above k n h differs = omega (arith, differs)
-
-last-of : (k : ℕ) → 8 ≤ k → k ≤ 8 → k ≡ 8
-last-of k l h = omega arith
-
-pub eighth : (k : ℕ) → IsInt k → (k ≡ 1 → ⊥) → (k ≡ 2 → ⊥) → (k ≡ 3 → ⊥) → (k ≡ 4 → ⊥) → (k ≡ 5 → ⊥) → (k ≡ 6 → ⊥) → (k ≡ 7 → ⊥) → k ≡ 8
-eighth k h one two three four five six seven =
-    last-of k (above k 7 (above k 6 (above k 5 (above k 4 (above k 3 (above k 2 (above k 1 (h .0) one) two) three) four) five) six) seven) (h .1)
+-- the item of an integer by its number
+pub takes-int : (j : ℕ) {k : ℕ} {s : List ℕ} {i : Item} → k ≡ j → IsInt j → i ≡ head (kindOf j) 0 0 s → TakesInt k s (Is i)
+takes-int j e int q = rw e (is int q)
 
 -- ---- a form that is not the shortest
 
@@ -89,6 +84,12 @@ unfolding headBy
 judged-head strict k n p s q e = q ∙ ap (judged strict) e
 
 -- ---- an item in the store
+
+inside : {p : ℕ} {own : Own} → Ends p (Took own) → p + own .used < 2 ^ 64
+inside (within h) = h
+
+pub ends-within : {p : ℕ} {i : Item} {own : Own} → i ≡ Took own → Ends p i → p + own .used < 2 ^ 64
+ends-within q e = inside (rw q at e)
 
 module _ {p m : ℕ} {s : List ℕ} {i : Item} where
   pub puts-same : {e : Refusal} → i ≡ Refused e → Puts p m s i (NotRead e p m) s
@@ -134,9 +135,9 @@ module _ (p : ℕ) (s : List ℕ) (k : ℕ) where
   int-here h fits q = low-number k refl (omega (arith, h .1)) fits (q ∙ low-place k p s (omega (arith, h .1)))
 
   -- a leaf's item ends inside the part
-  pub leaf-inside-plain : {own : Own} → takeAt k p s ≡ Took own → own .used ≤ length s
+  pub leaf-inside : {own : Own} → takeAt k p s ≡ Took own → own .used ≤ length s
   unfolding takeAt
-  leaf-inside-plain {own} =
+  leaf-inside {own} =
       of-pick (λ i. i ≡ Took own → own .used ≤ length s) (ltb (p + length s) (2 ^ 64)) _ _
       (λ _. of-pick (λ i. i ≡ Took own → own .used ≤ length s) (isLeaf k) _ _ (λ _ q. ends (rw q at (head-fits (kindOf k) 0 p s))) (λ _ q. never q))
       (λ _ q. never q)
@@ -147,5 +148,19 @@ module _ (p : ℕ) (s : List ℕ) (k : ℕ) where
       never : {e : Refusal} → Refused e ≡ Took own → own .used ≤ length s
       never q = let z : _≡_ {A = ℕ} 0 1 = cc in absurd (omega arith)
 
-  pub leaf-inside : (strict : Bool) {own : Own} → judged strict (takeAt k p s) ≡ Took own → own .used ≤ length s
-  leaf-inside strict e = leaf-inside-plain (judged-took strict (takeAt k p s) e)
+  -- and so at a place that a word holds, plainly or strictly read
+  pub leaf-ends : (strict : Bool) (i : Item) → p + length s < 2 ^ 64 → i ≡ judged strict (takeAt k p s) → Ends p i
+  leaf-ends strict (Took own) fits e = let u = leaf-inside (judged-took strict (takeAt k p s) (sym e)) in within {own = own} (omega (arith, u, fits))
+  leaf-ends strict (Refused why) fits e = nowhere
+
+-- an integer's item, where the kind is an integer's
+int-own : {k : ℕ} {s : List ℕ} {i : Item} → TakesInt k s (Is i) → IsInt k × (i ≡ head (kindOf k) 0 0 s)
+int-own (is int q) = (int, q)
+
+module _ (p : ℕ) {k : ℕ} {s : List ℕ} {r : Int} {i : Item} (t : TakesInt k s r) (e : r ≡ Is i) (fits : p + length s < 2 ^ 64) where
+  pub int-taken : IsInt k × (i ≡ takeAt k p s)
+  int-taken = let o = int-own (rw e at t) in (o .0, int-here p s k (o .0) fits (o .1))
+
+  pub int-ends : Ends p i
+  unfolding judged
+  int-ends = leaf-ends p s k false i fits (int-taken .1)

@@ -12,10 +12,10 @@ ghost use lib.ListN.{length};
 ghost use Rattle.wire.specs.Tests.{both};
 ghost use Rattle.wire.specs.Table.{kindOf, nodeAt, recordOf};
 ghost use Rattle.wire.specs.Reading.{known as knownOf, head as headOf, judged, headBy};
-ghost use Rattle.laws.specs.KindRanges.{IsInt, isInt, IsInner};
+ghost use Rattle.laws.specs.KindRanges.{IsInner};
 ghost use Rattle.laws.specs.Tables.{GoodTable};
 ghost use Rattle.leaf.specs.Leaves.{takeAt};
-ghost use Rattle.read_item.specs.Steps.{spot, Inner, ownOf, Puts, Enters};
+ghost use Rattle.read_item.specs.Steps.{spot, Inner, ownOf, Ends, TakesInt, Puts, Enters};
 
 // What an item leaves to do: the stretch that follows it, behind the bytes that it took; or why it is refused.
 pub enum Entered {
@@ -105,43 +105,53 @@ fn judge(strict: bool, got: Item) -> Item
 
 // ---- a leaf
 
-// Whether a kind is an integer that isn't of fixed size.
-pub fn is_int(number: u8) -> bool
-    ensures { λ r. ⌜ r ≡ isInt number ⌝ }
+// The own bytes of an integer that isn't of fixed size, or that the kind is another.
+pub enum Int {
+    Is { item: Item },
+    Other,
+}
+
+// An integer, read plainly. It is taken here, as `leaf::take` does it: that has several callers and so stays a call, which
+// costs more than most integers. It is apart from other leaves and from strict readings, whose items come by that call,
+// since it is what most messages hold most of; and it finds out whether it is one by the same step that takes it.
+pub fn int_bytes(number: u8, part: &[u8]) -> Int
+    ensures { λ r. ⌜ TakesInt number (now (part .entry)) r ⌝ }
 {
     match number {
-        1..=8 => true,
-        _ => false,
+        1 => Int::Is {
+            item: fixint::take8(part, true),
+        },
+        2 => Int::Is {
+            item: leaf::unzigzag(varint::take_u16(part)),
+        },
+        3 => Int::Is {
+            item: leaf::unzigzag(varint::take_u32(part)),
+        },
+        4 => Int::Is {
+            item: leaf::unzigzag(varint::take(part, varint::U64::MOST, varint::U64::LAST)),
+        },
+        5 => Int::Is {
+            item: fixint::take8(part, false),
+        },
+        6 => Int::Is {
+            item: varint::take_u16(part),
+        },
+        7 => Int::Is {
+            item: varint::take_u32(part),
+        },
+        8 => Int::Is {
+            item: varint::take(part, varint::U64::MOST, varint::U64::LAST),
+        },
+        _ => Int::Other,
     }
 }
 
-// An integer's own bytes. It is taken here, as `leaf::take` does it: that has several callers and so stays a call, which
-// costs more than most integers.
-fn int_bytes(number: u8, part: &[u8]) -> Item
-    requires { ⌜ IsInt number ⌝ }
-    ensures { λ r. ⌜ r ≡ headOf (kindOf number) 0 0 (now (part .entry)) ⌝ }
-{
-    match number {
-        1 => fixint::take8(part, true),
-        2 => leaf::unzigzag(varint::take_u16(part)),
-        3 => leaf::unzigzag(varint::take_u32(part)),
-        4 => leaf::unzigzag(varint::take(part, varint::U64::MOST, varint::U64::LAST)),
-        5 => fixint::take8(part, false),
-        6 => varint::take_u16(part),
-        7 => varint::take_u32(part),
-        _ => varint::take(part, varint::U64::MOST, varint::U64::LAST),
-    }
-}
-
-// An integer, read plainly: its entry, or why it is refused. It is apart from other leaves and from strict readings, whose
-// items come by a call, since it is what most messages hold most of.
-pub fn read_int(number: u8, part: &[u8], place: usize, store: &mut [u64], made: usize) -> ReadAnswer
-    requires { ⌜ IsInt number ⌝ }
-    requires { ⌜ place + length (now part) < 2 ^ 64 ⌝ }
+// The entry of a leaf, or why it is refused.
+pub fn lay(got: Item, place: usize, store: &mut [u64], made: usize) -> ReadAnswer
+    requires { ⌜ Ends place got ⌝ }
     requires { ⌜ made + 1 < 2 ^ 64 ⌝ }
-    ensures { λ r. ⌜ Puts place made (now (store .entry)) (takeAt number place (now (part .entry))) r (now (store .exit)) ⌝ }
+    ensures { λ r. ⌜ Puts place made (now (store .entry)) got r (now (store .exit)) ⌝ }
 {
-    let got = int_bytes(number, part);
     match got {
         Item::Refused { why } => ReadAnswer::Refused {
             why,
@@ -174,22 +184,7 @@ pub fn read_leaf(
     ensures { λ r. ⌜ Puts place made (now (store .entry)) (judged strict (takeAt number place (now (part .entry)))) r (now (store .exit)) ⌝ }
 {
     let got = judge(strict, leaf::take(number, part, place));
-    match got {
-        Item::Refused { why } => ReadAnswer::Refused {
-            why,
-            place,
-            count: made,
-        },
-        Item::Took { own } => {
-            entry::put(store, made, own.first, own.second, place);
-            let behind = place + own.used;
-            let count = made + 1;
-            ReadAnswer::Done {
-                place: behind,
-                count,
-            }
-        }
-    }
+    lay(got, place, store, made)
 }
 
 // ---- an item that has children

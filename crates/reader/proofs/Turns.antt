@@ -169,9 +169,9 @@ leaf-own strict {s} {l} {i} g below bs p k e outer fits =
 
 -- an integer that was read plainly
 pub int-gives : (strict : Bool) (room : ℕ) {s : List ℕ} {l : Layout} {i : ℕ} (g : GoodTable s l) (below : i < l .nodes) (bs : List ℕ) (p m : ℕ) (store : List ℕ) → m < room
-    → (k : ℕ) → k ≡ nodeAt s (recordOf l i) .number → IsInt k → strict ≡ false → p + length bs < 2 ^ 64 → {a : ReadAnswer} {st : List ℕ} → Puts p m store (takeAt k p bs) a st
+    → (k : ℕ) → k ≡ nodeAt s (recordOf l i) .number → IsInt k → strict ≡ false → p + length bs < 2 ^ 64 → {got : Item} → got ≡ takeAt k p bs → {a : ReadAnswer} {st : List ℕ} → Puts p m store got a st
     → Gives (lay room (nodeStep (reading (headBy strict)) s l i (spot bs p)) m store) a st
-int-gives strict room g below bs p m store some k e int plain fits =
+int-gives strict room g below bs p m store some k e int plain fits q =
     let outer : IsInner k → ⊥ = λ h. omega (arith, h .0, int .1) in
     let own = leaf-own strict g below bs p k e outer fits in
-    leaf-gives (headBy strict) room g below bs p m store some k e outer (own ∙ rw plain (unfold judged in refl))
+    leaf-gives (headBy strict) room g below bs p m store some k e outer (own ∙ rw plain (unfold judged in sym q))

@@ -1,5 +1,6 @@
 // Reading a message by a table.
 use read_item::Entered;
+use read_item::Int;
 use wire::Checked;
 use wire::Layout;
 use wire::ReadAnswer;
@@ -66,21 +67,25 @@ fn read_item(
         };
     }
     let number = table::kind_at(table, l, node);
-    if read_item::is_int(number) {
-        if !strict {
-            let got = read_item::read_int(number, part, place, store, made);
-            // Made anew, so that it does not go through memory with other answers; so is the next one.
-            let ReadAnswer::Done {
-                place: behind,
-                count,
-            } = got
-            else {
-                return got;
-            };
-            return ReadAnswer::Done {
-                place: behind,
-                count,
-            };
+    if !strict {
+        let int = read_item::int_bytes(number, part);
+        match int {
+            Int::Is { item } => {
+                let got = read_item::lay(item, place, store, made);
+                // Made anew, so that it does not go through memory with other answers; so is the next one.
+                let ReadAnswer::Done {
+                    place: behind,
+                    count,
+                } = got
+                else {
+                    return got;
+                };
+                return ReadAnswer::Done {
+                    place: behind,
+                    count,
+                };
+            }
+            Int::Other => {}
         }
     }
     if table::is_inner(number) {
@@ -322,11 +327,38 @@ fn read_with(
 }
 
 // Reads a message by a table: where it ends or why it is refused, and the entries made, which stand in front in the store.
+// It is not `read_with`, which has several callers and so stays a call: that costs a short message a tenth of its time.
 pub fn read(table: &[u8], message: &[u8], store: &mut [u64]) -> ReadAnswer
     ensures { λ r. ⌜ Reads (reads (now (table .entry)) (now (message .entry)) (now (store .entry))) (now (store .entry)) r (now (store .exit)) ⌝ }
 {
     let room = entry::room(store.len());
-    read_with(false, table, message, room, store)
+    let checked = table::check(table);
+    match checked {
+        Checked::Bad { why, place } => ReadAnswer::Refused {
+            why,
+            place,
+            count: 0,
+        },
+        Checked::Good { layout } => {
+            let root = table::root_at(table);
+            let way = table::flat(table, layout, layout.nodes, root, 1);
+            read_rounds(
+                false,
+                table,
+                layout,
+                layout.nodes,
+                1,
+                way.headed,
+                way.from,
+                way.width,
+                message,
+                0,
+                room,
+                store,
+                0,
+            )
+        }
+    }
 }
 
 // The same, for a message whose items are all in their shortest forms: the first that isn't is refused, after every other

@@ -10,7 +10,7 @@ use borrow.Fn.Kinds.{In}
 use borrow.Fn.PlainCycle.{Measures, is, falls, and}
 use Rattle.wire.specs.Reading.{headBy, reading}
 use Rattle.laws.proofs.Bounds.{head-by-sound}
-use Rattle.laws.proofs.KindRanges.{is-int, is-inner, not-inner}
+use Rattle.laws.proofs.KindRanges.{is-inner, not-inner}
 use Rattle.laws.proofs.Parts.{length-tail}
 use Rattle.table.specs.Parts.{Falls, rowStep, roundsStep}
 use Rattle.table.proofs.Stretches.{falls-first, falls-next, flat-falls}
@@ -21,8 +21,9 @@ use Rattle.read_item.specs.Lay.{lay}
 use Rattle.read_item.specs.Steps.{spot}
 use Rattle.read_item.proofs.Entering.{item-full}
 use Rattle.read_item.proofs.enter.Reads as enter-reads
-use Rattle.read_item.proofs.is_int.Reads as is-int-reads
-use Rattle.read_item.proofs.read_int.Reads as read-int-reads
+use Rattle.read_item.proofs.Heads.{int-taken, int-ends}
+use Rattle.read_item.proofs.int_bytes.Reads as int-bytes-reads
+use Rattle.read_item.proofs.lay.Reads as lay-reads
 use Rattle.read_item.proofs.read_leaf.Reads as read-leaf-reads
 use Rattle.reader.proofs.Laying.{gives-refused, gives-as}
 use Rattle.reader.proofs.Rounds.{begun-full, begun-at}
@@ -119,41 +120,40 @@ module _ (t : ℕ) where
   item-at = and 3 read-item-kinds.ps (is 3 read-item-kinds.ps μ-item t) read-item.Pre
 
   abbrev item-calls : read-item-lts.Claims
-  item-calls = (kind-at-reads.Asked, kind-at-reads.Learnt, is-int-reads.Asked, is-int-reads.Learnt, read-int-reads.Asked, read-int-reads.Learnt, is-inner-reads.Asked, is-inner-reads.Learnt, and 3 read-inner-kinds.ps (falls 3 read-inner-kinds.ps _<_ μ-inner t) read-inner.Pre, read-inner.Post, read-leaf-reads.Asked, read-leaf-reads.Learnt)
+  item-calls = (kind-at-reads.Asked, kind-at-reads.Learnt, int-bytes-reads.Asked, int-bytes-reads.Learnt, lay-reads.Asked, lay-reads.Learnt, is-inner-reads.Asked, is-inner-reads.Learnt, and 3 read-inner-kinds.ps (falls 3 read-inner-kinds.ps _<_ μ-inner t) read-inner.Pre, read-inner.Post, read-leaf-reads.Asked, read-leaf-reads.Learnt)
 
   item-returns : read-item-lts.Need-returns item-calls item-at read-item.Post
   item-returns c = let s = c .before .before .before .before in gives-refused (item-full _ _ (s .pre .1 .0) (s .pre .1 .1 .0) _ _ _ (omega arith))
 
-  item-read-int-requires : read-item-lts.Need-read-int-requires item-calls item-at read-item.Post
-  item-read-int-requires c κs =
-      let s = c .before .before .before .before .before .before .before .before .before in
-      (is-int _ (sym (c .before .before .before .is-int .ensures) ∙ c .before .before .if2 .taken), (s .pre .1 .1 .1, omega arith))
+  item-lay-requires : read-item-lts.Need-lay-requires item-calls item-at read-item.Post
+  item-lay-requires c κs = (int-ends _ (c .before .before .before .before .int-bytes .ensures) (c .before .before .int .given .1) (c .before .before .before .before .before .before .before .before .before .before .before .pre .1 .1 .1), omega arith)
 
   item-returns-2 : read-item-lts.Need-returns-2 item-calls item-at read-item.Post
   item-returns-2 c =
-      let s = c .before .before .before .before .before .before .before .before .before .before .before .before .before .before in
-      int-gives _ _ (s .pre .1 .0) (s .pre .1 .1 .0) _ _ _ _ (omega arith) _ (c .before .before .before .before .before .before .before .before .before .kind-at .ensures) (is-int _ (sym (c .before .before .before .before .before .before .before .before .is-int .ensures) ∙ c .before .before .before .before .before .before .before .if2 .taken)) (not-true _ (c .before .before .before .before .before .before .if3 .taken)) (s .pre .1 .1 .1) (c .before .before .before .before .read-int .ensures)
+      let s = c .before .before .before .before .before .before .before .before .before .before .before .before .before .before .before .before in
+      let taken = int-taken _ (c .before .before .before .before .before .before .before .before .before .int-bytes .ensures) (c .before .before .before .before .before .before .before .int .given .1) (s .pre .1 .1 .1) in
+      int-gives _ _ (s .pre .1 .0) (s .pre .1 .1 .0) _ _ _ _ (omega arith) _ (c .before .before .before .before .before .before .before .before .before .before .before .kind-at .ensures) (taken .0) (not-true _ (c .before .before .before .before .before .before .before .before .before .before .if2 .taken)) (s .pre .1 .1 .1) (taken .1) (c .before .before .before .before .lay .ensures)
 
   item-returns-3 : read-item-lts.Need-returns-3 item-calls item-at read-item.Post
   item-returns-3 c =
-      let s = c .before .before .before .before .before .before .before .before .before .before .before .before .before .before .before in
-      gives-as (c .before .got .given .1)
-      (int-gives _ _ (s .pre .1 .0) (s .pre .1 .1 .0) _ _ _ _ (omega arith) _ (c .before .before .before .before .before .before .before .before .before .before .kind-at .ensures) (is-int _ (sym (c .before .before .before .before .before .before .before .before .before .is-int .ensures) ∙ c .before .before .before .before .before .before .before .before .if2 .taken)) (not-true _ (c .before .before .before .before .before .before .before .if3 .taken)) (s .pre .1 .1 .1) (c .before .before .before .before .before .read-int .ensures))
+      let s = c .before .before .before .before .before .before .before .before .before .before .before .before .before .before .before .before .before in
+      let taken = int-taken _ (c .before .before .before .before .before .before .before .before .before .before .int-bytes .ensures) (c .before .before .before .before .before .before .before .before .int .given .1) (s .pre .1 .1 .1) in
+      gives-as (c .before .got .given .1) (int-gives _ _ (s .pre .1 .0) (s .pre .1 .1 .0) _ _ _ _ (omega arith) _ (c .before .before .before .before .before .before .before .before .before .before .before .before .kind-at .ensures) (taken .0) (not-true _ (c .before .before .before .before .before .before .before .before .before .before .before .if2 .taken)) (s .pre .1 .1 .1) (taken .1) (c .before .before .before .before .before .lay .ensures))
 
   item-read-inner-requires : read-item-lts.Need-read-inner-requires item-calls item-at read-item.Post
   item-read-inner-requires c κs =
-      let s = c .before .before .before .before .before .before .before .before .before .before in
+      let s = c .before .before .before .before .before .before .before .before .before in
       let low : s .args .node * 4 + 2 < s .args .node * 4 + 3 = omega arith in
-      let inner = is-inner _ (sym (c .before .before .is-inner .ensures) ∙ c .before .if4 .taken) in (
+      let inner = is-inner _ (sym (c .before .before .is-inner .ensures) ∙ c .before .if3 .taken) in (
         rw (s .pre .0) at low,
-        (s .pre .1 .0, (s .pre .1 .1 .0, (record { kind = c .before .before .before .before .before .kind-at .ensures; inner = inner }, (omega arith, s .pre .1 .1 .1)))),
+        (s .pre .1 .0, (s .pre .1 .1 .0, (record { kind = c .before .before .before .before .kind-at .ensures; inner = inner }, (omega arith, s .pre .1 .1 .1)))),
       )
 
   item-returns-6 : read-item-lts.Need-returns-6 item-calls item-at read-item.Post
   item-returns-6 c =
-      let s = c .before .before .before .before .before .before .before .before .before .before .before .before .before in
-      let outer = not-inner _ (sym (c .before .before .before .before .before .is-inner .ensures) ∙ c .before .before .before .before .if4 .left) in
-      let kind = c .before .before .before .before .before .before .before .before .kind-at .ensures in
+      let s = c .before .before .before .before .before .before .before .before .before .before .before .before in
+      let outer = not-inner _ (sym (c .before .before .before .before .before .is-inner .ensures) ∙ c .before .before .before .before .if3 .left) in
+      let kind = c .before .before .before .before .before .before .before .kind-at .ensures in
       leaf-gives _ _ (s .pre .1 .0) (s .pre .1 .1 .0) _ _ _ _ (omega arith) _ kind outer (leaf-own _ (s .pre .1 .0) (s .pre .1 .1 .0) _ _ _ kind outer (s .pre .1 .1 .1)) (c .before .before .read-leaf .ensures)
 
 -- ---- the rounds
@@ -267,12 +267,12 @@ pub +read-inner+read-item+read-rounds+read-stretch-spec : {M : Type 1} → state
     (λ c. c .before .before .read-rounds .kept .1 .1 .1 .1 .1 .1 .1 .1 .1 .1 .1 .0 ∙ c .before .before .before .before .before .before .before .before .before .before .before .before .before .enter .kept .1 .1 .1 .1 .1 .1 .1 .0) (inner-returns-3 t))
     (λ t.
     read-item-lts.spec (item-calls t) (item-at t) read-item.Post
-    (item-returns t) (λ c κs. let p = c .before .before .before .before .pre .1 in (p .0, p .1 .0)) (λ c κs. tt) (item-read-int-requires t)
-    (λ c. c .match .keys1) (λ c. c .match .keys2) (λ c. c .before .before .before .before .read-int .kept .1 .1 .1 .0) (item-returns-2 t) (λ c. c .before .before .before .before .before .read-int .kept .1 .1 .1 .0) (item-returns-3 t)
-    (λ c κs. tt) (item-read-inner-requires t)
-    (λ c. c .match2 .keys1) (λ c. c .match2 .keys2) (λ c. c .before .before .before .before .read-inner .kept .1 .1 .1 .1 .1 .1 .1 .1 .0) (λ c. c .before .before .before .before .read-inner .ensures)
+    (item-returns t) (λ c κs. let p = c .before .before .before .before .pre .1 in (p .0, p .1 .0)) (λ c κs. tt) (λ c. c .match .keys1) (item-lay-requires t)
+    (λ c. c .match2 .keys1) (λ c. c .match2 .keys2) (λ c. c .before .before .before .before .lay .kept .1 .1 .0) (item-returns-2 t) (λ c. c .before .before .before .before .before .lay .kept .1 .1 .0) (item-returns-3 t)
+    (λ c. c .match .keys2) (λ c κs. tt) (item-read-inner-requires t)
+    (λ c. c .match3 .keys1) (λ c. c .match3 .keys2) (λ c. c .before .before .before .before .read-inner .kept .1 .1 .1 .1 .1 .1 .1 .1 .0) (λ c. c .before .before .before .before .read-inner .ensures)
     (λ c. c .before .before .before .before .before .read-inner .kept .1 .1 .1 .1 .1 .1 .1 .1 .0) (λ c. rw (c .before .got2 .given .1) at (c .before .before .before .before .before .read-inner .ensures))
-    (λ c κs. (c .before .before .before .before .before .before .before .before .before .before .pre .1 .1 .1, omega arith)) (λ c. c .before .before .read-leaf .kept .1 .1 .1 .1 .0) (item-returns-6 t))
+    (λ c κs. (c .before .before .before .before .before .before .before .before .before .pre .1 .1 .1, omega arith)) (λ c. c .before .before .read-leaf .kept .1 .1 .1 .1 .0) (item-returns-6 t))
     (λ t.
     read-rounds-lts.spec (rounds-calls t) (rounds-at t) read-rounds.Post rounds-Inv rounds-μ
     (λ c. (refl, refl, refl)) (λ c κs. tt) (λ c. c .match .keys1) (λ c. c .match .keys2) (λ c. c .before .before .before .before .begin .kept .1 .1 .1 .0 ∙ c .before .before .before .before .before .before .before .loop .inv .2) (rounds-returns t)

@@ -2,15 +2,22 @@
 -- Assumes nothing.
 use mathlib.Core.Path.{_≡_}
 use mathlib.Core.List.{List, _++_}
-use Prim.Native.Nat.{ℕ}
+use Prim.Native.Nat.{ℕ, _≤_}
+use lib.ListN.{length}
 use Rattle.wire.specs.declared.Refusal.{Refusal}
 use Rattle.wire.specs.declared.Refusal.the-variants.{End}
-use Rattle.wire.specs.Shape.{Shape}
+use Rattle.wire.specs.declared.Own.{Own}
+use Rattle.wire.specs.declared.Item.the-variants.{Took}
+use Rattle.wire.specs.Shape.{Kind, Shape}
 use Rattle.wire.specs.Values.{Entry}
-use Rattle.wire.specs.Reading.{Spot, reached, refused, read}
+use Rattle.wire.specs.Reading.{head, Spot, reached, refused, read}
 
 unfoldable pub longer : List ℕ → Spot → Spot
 longer extra x = record { bytes = x .bytes ++ extra; place = x .place }
+
+-- an item that stands in the bytes in front is the same whatever follows them
+abbrev pub FrontItem : Type 0
+FrontItem = (k : Kind) (n p : ℕ) (s r r′ : List ℕ) (own : Own) → head k n p (s ++ r) ≡ Took own → own .used ≤ length s → head k n p (s ++ r′) ≡ Took own
 
 -- what was read is read, and the bytes are left
 abbrev pub LongerReads : Type 0

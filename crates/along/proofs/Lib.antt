@@ -1,0 +1,5 @@
+-- The proofs of what specs/ states.
+pub mod Found
+pub mod Made
+pub mod Early
+pub mod Settled

@@ -1,0 +1,78 @@
+-- The kinds that a path ends at or goes through, by their numbers, and what follows an item of the latter.
+-- Assumes nothing.
+use mathlib.Core.Path.{_≡_, refl, sym}
+use mathlib.Core.Bool.{true, false}
+use Prim.Native.Nat.{ℕ, _+_, _<_, _≤_}
+use native.Mathlib.Omega.{arith}
+use lib.ListN.{List·getD-eq-default}
+use borrow.Author.Tests.{lt-ltb}
+use Rattle.wire.specs.Tests.{pick, decided}
+use Rattle.wire.specs.Shape.{unit, Kind, plain, pooled, option, sequence, map, struct, enum, sameKind}
+use Rattle.wire.specs.Walk.{following}
+use Rattle.wire.specs.Table.{kinds, kindOf}
+use Rattle.laws.specs.KindRanges.{IsInner}
+use Rattle.laws.proofs.Splits.{by-lt, by-eq, not-both}
+use Rattle.laws.proofs.EachKind.{end, _&_, in-kinds, outer-kinds}
+use Rattle.table.specs.Parts.{followed}
+use Rattle.desk.specs.Path.{isField, isPassed, isThere}
+
+module _ (k : ℕ) where
+  pub field-low : k ≤ 13 → true ≡ isField (kindOf k)
+  unfolding isField sameKind decided pick kinds
+  field-low h =
+      in-kinds (λ q. true ≡ isField q) 0 14 refl
+      (refl & refl & refl & refl & refl & refl & refl & refl & refl & refl & refl & refl & refl & refl & end) k (omega arith) (omega arith)
+
+  pub field-high : 20 ≤ k → k ≤ 31 → true ≡ isField (kindOf k)
+  unfolding isField sameKind decided pick kinds
+  field-high l h =
+      in-kinds (λ q. true ≡ isField q) 20 12 refl (refl & refl & refl & refl & refl & refl & refl & refl & refl & refl & refl & refl & end) k l (omega arith)
+
+  pub field-not : 14 ≤ k → (20 ≤ k → 32 ≤ k) → false ≡ isField (kindOf k)
+  unfolding isField sameKind decided pick kinds
+  field-not l h =
+      by-lt k 20 (λ b. in-kinds (λ q. false ≡ isField q) 14 6 refl (refl & refl & refl & refl & refl & refl & end) k l (omega arith))
+      (λ b. unfold kindOf in rw (List·getD-eq-default kinds (plain unit) (h b)))
+
+  -- a field has no children
+  pub field-outer : isField (kindOf k) ≡ true → IsInner k → ⊥
+  field-outer f h = not-both f (sym (field-not (omega (arith, h .0)) (λ l. absurd (omega (arith, h .1)))))
+
+  pub passed-option : k ≡ 15 → true ≡ isPassed (kindOf k)
+  unfolding isPassed sameKind decided pick kinds
+  passed-option e = in-kinds (λ q. true ≡ isPassed q) 15 1 refl (refl & end) k (omega arith) (omega arith)
+
+  pub passed-struct : k ≡ 18 → true ≡ isPassed (kindOf k)
+  unfolding isPassed sameKind decided pick kinds
+  passed-struct e = in-kinds (λ q. true ≡ isPassed q) 18 1 refl (refl & end) k (omega arith) (omega arith)
+
+  pub passed-not : (k ≡ 15 → ⊥) → (k ≡ 18 → ⊥) → false ≡ isPassed (kindOf k)
+  unfolding isPassed sameKind decided pick kinds
+  passed-not a b =
+      by-lt k 15 (λ h. outer-kinds (λ q. false ≡ isPassed q) (λ x. refl) (λ c. refl) k (λ i. absurd (omega (arith, i .0))))
+      (λ h. by-lt 19 k (λ g. outer-kinds (λ q. false ≡ isPassed q) (λ x. refl) (λ c. refl) k (λ i. absurd (omega (arith, i .1))))
+      (λ g. by-lt k 18 (λ c. in-kinds (λ q. false ≡ isPassed q) 16 2 refl (refl & refl & end) k (apart a h) (omega arith))
+      (λ c. in-kinds (λ q. false ≡ isPassed q) 19 1 refl (refl & end) k (apart b c) (omega arith))))
+    where
+      apart : {n : ℕ} → (k ≡ n → ⊥) → n ≤ k → n + 1 ≤ k
+      apart {n} other l = by-eq k n (λ e. absurd (other e)) (λ e. omega arith)
+
+  -- a path goes through kinds that have children
+  pub passed-inner : isPassed (kindOf k) ≡ true → IsInner k
+  passed-inner p = by-eq k 15 (λ e. (omega arith, omega arith)) (λ a. by-eq k 18 (λ e. (omega arith, omega arith)) (λ b. not-both p (sym (passed-not a b))))
+
+-- what follows an item that a path goes through is all its children, and none where it is absent
+pub record Follows (k : Kind) (a from n : ℕ) : Type 0 where
+  pub all : followed (following k a) from n .from ≡ from
+  pub gone : followed (following k a) from n .rounds ≡ 0 → isThere k a ≡ false
+  pub there : 0 < followed (following k a) from n .rounds → isThere k a ≡ true
+
+pub follows : (k : Kind) (a from n : ℕ) → isPassed k ≡ true → Follows k a from n
+unfolding isPassed isThere sameKind decided pick following followed
+follows (plain l) a from n p = not-both p refl
+follows (pooled c) a from n p = not-both p refl
+follows option a from n p = record { all = refl; gone = λ e. rw e; there = λ h. lt-ltb 0 a h }
+follows sequence a from n p = not-both p refl
+follows map a from n p = not-both p refl
+follows struct a from n p = record { all = refl; gone = λ e. absurd (omega arith); there = λ h. refl }
+follows enum a from n p = not-both p refl

@@ -7,6 +7,7 @@ use mathlib.Core.Option.{Option, none, some}
 use Prim.Native.Nat.{ℕ, zero, suc, _-_}
 use native.Mathlib.Omega.{arith}
 use lib.ListN.{length}
+use borrow.Author.Tests.{ltb-false}
 use Rattle.wire.specs.declared.Refusal.the-variants.{Room}
 use Rattle.wire.specs.declared.Item.{Item}
 use Rattle.wire.specs.declared.Item.the-variants.{Took, Refused as NotTaken}
@@ -47,6 +48,21 @@ goes-in sequence a p h = not-both p refl
 goes-in map a p h = not-both p refl
 goes-in struct a p h = record { more = 0; rounds = refl }
 goes-in enum a p h = not-both p refl
+
+-- what is not there is an option, read as absent
+pub record Lacking (k : Kind) (a : ℕ) : Type 0 where
+  pub kind : k ≡ option
+  pub word : a ≡ 0
+
+pub lacking : (k : Kind) (a : ℕ) → isThere k a ≡ false → Lacking k a
+unfolding isThere sameKind decided pick
+lacking (plain l) a h = not-both refl h
+lacking (pooled c) a h = not-both refl h
+lacking option a h = record { kind = refl; word = omega (arith, ltb-false 0 a h) }
+lacking sequence a h = not-both refl h
+lacking map a h = not-both refl h
+lacking struct a h = not-both refl h
+lacking enum a h = not-both refl h
 
 pub given-some : {A : Type 0} (b : Bool) (f : Unit {0} → Option A) {a : A} → given b f none ≡ some a → (b ≡ true) × (f tt ≡ some a)
 unfolding given

@@ -1,5 +1,4 @@
 -- The proofs of what specs/ states.
 pub mod Found
 pub mod Made
-pub mod Early
 pub mod Settled

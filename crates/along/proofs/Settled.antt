@@ -9,26 +9,26 @@ use native.Mathlib.Nat.{add-zero, zero-add, add-assoc}
 use native.Mathlib.Omega.{arith}
 use lib.ListN.{length, drop, length-drop}
 use lib.Seq.{drop-append-le, drop-drop}
-use borrow.Author.Tests.{ltb-false}
 use Rattle.wire.specs.declared.Refusal.{Refusal}
 use Rattle.wire.specs.declared.Own.{Own}
 use Rattle.wire.specs.declared.Item.{Item}
 use Rattle.wire.specs.declared.Item.the-variants.{Took, Refused as NotTaken}
-use Rattle.wire.specs.Tests.{pick, given, decided}
-use Rattle.wire.specs.Shape.{Kind, plain, pooled, option, sequence, map, struct, enum, sameKind, Shape, node, Shapes, count}
+use Rattle.wire.specs.Tests.{pick, given}
+use Rattle.wire.specs.Shape.{Kind, plain, pooled, option, sequence, map, struct, enum, Shape, node, Shapes, count}
 use Rattle.wire.specs.Shape as shapes
 use Rattle.wire.specs.Values.{Entry}
 use Rattle.wire.specs.Reading.{head, Spot, front, Outcome, reached, refused, past, read, fit}
+use Rattle.laws.specs.Longer.{spot, Moved}
 use Rattle.laws.proofs.Splits.{not-both}
 use Rattle.laws.proofs.Longer.{front-item}
+use Rattle.laws.proofs.Early.{past-front, fit-early}
 use Rattle.desk.specs.declared.FindAnswer.{FindAnswer}
-use Rattle.desk.specs.declared.FindAnswer.the-variants.{Found, Absent, Refused}
+use Rattle.desk.specs.declared.FindAnswer.the-variants.{Found, NoItem, Absent, Refused}
 use Rattle.desk.specs.Path.{isField, isPassed, leads, leadsAt, isThere, findIn}
 use Rattle.along.specs.Seek.{seekOn, seekItem, seek, seekAt}
-use Rattle.along.specs.Laws.{Decides, item, gone, Settled, settled, LaterBytes}
+use Rattle.along.specs.Laws.{Decides, item, gone, Settled, settled, LaterBytes, SomeItem}
 use Rattle.along.specs.Laws as laws
-use Rattle.along.proofs.Found.{no-some, given-some, seeks-found}
-use Rattle.along.proofs.Early.{spot, past-front, Moved, fit-early}
+use Rattle.along.proofs.Found.{no-some, given-some, lacking, seeks-found}
 
 -- m bytes on from x stands the item that decides, and on all bytes that begin with those up to its end the answer is the same
 data Fixed (k : Kind) (x : Spot) (here : Spot → FindAnswer) : FindAnswer → Type 0 where
@@ -61,21 +61,6 @@ head-count sequence n p s h = not-both h refl
 head-count map n p s h = not-both h refl
 head-count struct n p s h = not-both h refl
 head-count enum n p s h = not-both h refl
-
--- what is not there is an option, read as absent
-record Lacking (k : Kind) (a : ℕ) : Type 0 where
-  kind : k ≡ option
-  word : a ≡ 0
-
-lacking : (k : Kind) (a : ℕ) → isThere k a ≡ false → Lacking k a
-unfolding isThere sameKind decided pick
-lacking (plain l) a h = not-both refl h
-lacking (pooled c) a h = not-both refl h
-lacking option a h = record { kind = refl; word = omega (arith, ltb-false 0 a h) }
-lacking sequence a h = not-both refl h
-lacking map a h = not-both refl h
-lacking struct a h = not-both refl h
-lacking enum a h = not-both refl h
 
 option-count : (k : Kind) (n p : ℕ) (s : List ℕ) → k ≡ option → head k n p s ≡ head option 0 p s
 unfolding head
@@ -177,3 +162,14 @@ later-bytes t path k e room message = rw (← seeks-found t path k e room (front
     go (fixed m u d again) =
         settled m u (rw (zero-add m) at d) (λ s rest other q h. sym (seeks-found t path k e room (front (s ++ other))) ∙ again s rest other q h)
     go refuses = laws.refuses
+
+pub some-item : SomeItem
+some-item t path k e room message n = go (later-bytes t path k e room message) n
+  where
+    decided-some : {s : List ℕ} {p u : ℕ} {r : FindAnswer} → Decides k s p u r → r ≡ NoItem → ⊥
+    decided-some (item q u) n = let z : _≡_ {A = ℕ} 0 1 = cc in omega arith
+    decided-some (gone q w u) n = let z : _≡_ {A = ℕ} 0 1 = cc in omega arith
+
+    go : {answer : List ℕ → FindAnswer} {r : FindAnswer} → Settled k message answer r → r ≡ NoItem → ⊥
+    go (settled p u d a) n = decided-some d n
+    go laws.refuses n = let z : _≡_ {A = ℕ} 0 1 = cc in omega arith

@@ -10,9 +10,9 @@ use Rattle.wire.specs.declared.Own.{Own}
 use Rattle.wire.specs.declared.Item.the-variants.{Took}
 use Rattle.wire.specs.Shape.{Kind, option, Shape}
 use Rattle.wire.specs.Values.{Entry}
-use Rattle.wire.specs.Reading.{head, Spot, front, Run, read, fit}
+use Rattle.wire.specs.Reading.{head, Spot, front, Outcome, refused, Run, read, fit}
 use Rattle.desk.specs.declared.FindAnswer.{FindAnswer}
-use Rattle.desk.specs.declared.FindAnswer.the-variants.{Found, Absent, Refused}
+use Rattle.desk.specs.declared.FindAnswer.the-variants.{Found, NoItem, Absent, Refused}
 use Rattle.desk.specs.Path.{leads, findIn}
 use Rattle.along.specs.Seek.{seek}
 
@@ -21,14 +21,21 @@ abbrev pub SeeksFound : Type 0
 SeeksFound = (t : Shape) (path : List ℕ) (k : Kind) → leads t path ≡ some k → (room : ℕ) (x : Spot)
     → seek t path room x ≡ findIn t path (fit room (read t x))
 
--- What is found is an entry that the full read made, also where that is refused later.
+-- What an answer is beside a read that made the entries es and ended so: one of these entries, also where the read is refused
+-- later; an option's entry among them that is absent; or, where it made neither, its refusal.
 pub record Among (e : Entry) (es : List Entry) : Type 0 where
   pub front : List Entry
   pub rest : List Entry
   pub list : es ≡ front ++ e ∷ rest
 
+pub data FromRead (es : List Entry) : Outcome → FindAnswer → Type 0 where
+  made : {end : Outcome} (e : Entry) → Among e es → FromRead es end (Found (e .first) (e .second) (e .place))
+  lacking : {end : Outcome} (e : Entry) → e .first ≡ 0 → Among e es → FromRead es end (Absent (e .place))
+  same : {why : Refusal} {p : ℕ} → FromRead es (refused why p) (Refused why p)
+
+-- Every answer but that the path leads to no item is so.
 abbrev pub FoundMade : Type 0
-FoundMade = (t : Shape) (path : List ℕ) (r : Run) (a b p : ℕ) → findIn t path r ≡ Found a b p → Among (record { first = a; second = b; place = p }) (r .made)
+FoundMade = (t : Shape) (path : List ℕ) (r : Run) → (findIn t path r ≡ NoItem → ⊥) → FromRead (r .made) (r .ends) (findIn t path r)
 
 -- The own bytes of the item that decides an answer, u of them at the place p, where the bytes s are: the path's item, or the
 -- option that is absent.
@@ -45,3 +52,7 @@ pub data Settled (k : Kind) (message : List ℕ) (answer : List ℕ → FindAnsw
 abbrev pub LaterBytes : Type 0
 LaterBytes = (t : Shape) (path : List ℕ) (k : Kind) → leads t path ≡ some k → (room : ℕ) (message : List ℕ)
     → Settled k message (λ m. findIn t path (fit room (read t (front m)))) (findIn t path (fit room (read t (front message))))
+
+-- A path that leads to an item is never said to lead to none.
+abbrev pub SomeItem : Type 0
+SomeItem = (t : Shape) (path : List ℕ) (k : Kind) → leads t path ≡ some k → (room : ℕ) (message : List ℕ) → findIn t path (fit room (read t (front message))) ≡ NoItem → ⊥

@@ -49,19 +49,31 @@ tableS =
     (0x05 ∷ 0 ∷ 0 ∷ 0 ∷ 0 ∷ 0 ∷ 0x0f ∷ 0 ∷ 0 ∷ 0 ∷ 0 ∷ 0 ∷ 0x0c ∷ 0 ∷ 0 ∷ 0 ∷ 0 ∷ 0 ∷ 0x10 ∷ 0 ∷ 0 ∷ 0 ∷ 0 ∷ 0 ∷ 0x12 ∷ 0 ∷ 0 ∷ 0 ∷ 4 ∷ 0 ∷ [])
     (1 ∷ 0 ∷ 2 ∷ 0 ∷ 3 ∷ 0 ∷ 0 ∷ 0 ∷ []) 5 4
 
+-- E: an enum with one variant, a u8
+unfoldable pub tableE : List ℕ
+tableE = tabled (0x05 ∷ 0 ∷ 0 ∷ 0 ∷ 0 ∷ 0 ∷ 0x13 ∷ 0 ∷ 0 ∷ 0 ∷ 1 ∷ 0 ∷ []) (0 ∷ 0 ∷ []) 2 1
+
+-- O: an option of an option of a u8
+unfoldable pub tableO : List ℕ
+tableO = tabled (0x05 ∷ 0 ∷ 0 ∷ 0 ∷ 0 ∷ 0 ∷ 0x0f ∷ 0 ∷ 0 ∷ 0 ∷ 0 ∷ 0 ∷ 0x0f ∷ 0 ∷ 1 ∷ 0 ∷ 0 ∷ 0 ∷ []) [] 3 2
+
 unfoldable pub findCases : List FindCase
 findCases =
     -- the product of T; found though the read is refused later; refused before it
     finding tableT (1 ∷ []) (0xac ∷ 0x02 ∷ 0x05 ∷ 0x03 ∷ []) 0 2 5 0
     ∷ finding tableT (1 ∷ []) (0xac ∷ 0x02 ∷ 0x05 ∷ 0x80 ∷ []) 0 2 5 0
     ∷ finding tableT (2 ∷ []) (0xac ∷ 0x02 ∷ 0x85 ∷ []) 3 2 0 0
-    -- a struct is no such item, nor is what isn't there; the table alone decides
+    -- a struct is no such item, nor is what isn't there, a unit or a variant's; the table alone decides
     ∷ finding tableT [] [] 13 0 0 0
     ∷ finding tableT (3 ∷ []) [] 13 0 0 0
-    -- through an option; absent, whatever follows; a text's words
+    ∷ finding (leafTable 14) [] [] 13 0 0 0
+    ∷ finding tableE (0 ∷ []) (0 ∷ 9 ∷ []) 13 0 0 0
+    -- through an option; absent, whatever follows; the first of two; a text's words
     ∷ finding tableS (0 ∷ 0 ∷ []) (1 ∷ 9 ∷ []) 0 1 9 0
     ∷ finding tableS (0 ∷ 0 ∷ []) (0 ∷ 0xff ∷ []) 14 0 0 0
     ∷ finding tableS (0 ∷ 0 ∷ []) (2 ∷ []) 8 0 0 0
+    ∷ finding tableO (0 ∷ 0 ∷ []) (0 ∷ 1 ∷ 7 ∷ []) 14 0 0 0
+    ∷ finding tableO (0 ∷ 0 ∷ []) (1 ∷ 0 ∷ 7 ∷ []) 14 1 0 0
     ∷ finding tableS (1 ∷ []) (1 ∷ 9 ∷ 2 ∷ 0x61 ∷ 0x62 ∷ []) 0 2 3 2
     -- an option in front is read, and isn't the path's
     ∷ finding tableS (3 ∷ []) (0 ∷ 0 ∷ 0 ∷ 7 ∷ []) 0 3 7 0

@@ -1,12 +1,26 @@
--- How the entries of a reading are told apart by the shape that it read.
+-- How entries are told apart by a shape, and those of a reading by the shape that it read.
 -- Assumes nothing.
 use mathlib.Core.Path.{_≡_}
-use mathlib.Core.List.{List, _++_}
+use mathlib.Core.List.{List, _∷_, _++_, map}
 use Prim.Native.Nat.{ℕ}
 use Rattle.wire.specs.declared.Refusal.{Refusal}
 use Rattle.wire.specs.Shape.{Shape}
-use Rattle.wire.specs.Values.{Entry, Tag, Told, kept, short, tell}
+use Rattle.wire.specs.Values.{Entry, Tag, Told, kept, lacks, short, tell}
 use Rattle.wire.specs.Reading.{Spot, Outcome, reached, refused, read, fit}
+
+-- the entries that were told apart as a value's
+unfoldable pub entries : List Tag → List Entry
+entries ts = map (λ t. t .entry) ts
+
+-- the entries that were told apart
+unfoldable pub over : Told → List Entry
+over (kept ts rest) = entries ts ++ rest
+over (lacks ts e rest) = entries ts ++ e ∷ rest
+over (short ts) = entries ts
+
+-- Telling entries apart leaves none out, adds none and keeps their order.
+abbrev pub TellsAll : Type 0
+TellsAll = (t : Shape) (es : List Entry) → over (tell t es) ≡ es
 
 -- a step tells the entries es apart as ts, and whatever stands behind them is left
 pub record Tells (u : List Entry → Told) (es : List Entry) (ts : List Tag) : Type 0 where

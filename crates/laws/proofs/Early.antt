@@ -11,25 +11,16 @@ use Rattle.wire.specs.Shape.{Kind, Shape}
 use Rattle.wire.specs.Walk.{following}
 use Rattle.wire.specs.Values.{Entry}
 use Rattle.wire.specs.Reading.{head, Spot, Run, reached, runAfter, readNothing, readOn, readThen, past, enter, readItem, reading, read, fit}
 use Rattle.laws.specs.Steps.{Every}
+use Rattle.laws.specs.Longer.{spot, Moved, EarlyReads}
 use Rattle.laws.proofs.Walks.{every}
 use Rattle.laws.proofs.Bounds.{past-past}
 use Rattle.laws.proofs.Longer.{front-item}
 use Rattle.laws.proofs.Runs.{same-spot, ThenRead, then-read, ItemRead, item-read, fit-reached, within-reached}
-
--- the bytes s and then others, at a place
-abbrev pub spot : List ℕ → ℕ → Spot
-spot s p = record { bytes = s; place = p }
 
 pub past-front : (n : ℕ) (s r : List ℕ) (p : ℕ) → n ≤ length s → past n (spot (s ++ r) p) ≡ spot (drop n s ++ r) (p + n)
 unfolding past
 past-front n s r p h = rw (drop-append-le n s r h)
-
--- a run took so many bytes, and is the same on all that begin with them
-pub record Moved (f : Spot → Run) (x : Spot) (es : List Entry) (y : Spot) : Type 0 where
-  pub used : ℕ
-  pub ends : y ≡ past used x
-  pub again : (s r r′ : List ℕ) → x .bytes ≡ s ++ r → used ≤ length s → f (spot (s ++ r′) (x .place)) ≡ record { made = es; ends = reached (past used (spot (s ++ r′) (x .place))) }
 
 record Early (f : Spot → Run) : Type 0 where
   moves : (x : Spot) (es : List Entry) (y : Spot) → f x ≡ record { made = es; ends = reached y } → Moved f x es y
@@ -88,7 +79,7 @@ early-item k n next h = record { moves = λ x es y e. go x es y (item-read head 
               (unfold enter in rw (behind-again f x (t .own .used) (t .those) y w s r r′ q l) (unfold runAfter in refl));
         }
 
-pub read-early : (t : Shape) (x : Spot) (es : List Entry) (y : Spot) → read t x ≡ record { made = es; ends = reached y } → Moved (read t) x es y
+pub read-early : EarlyReads
 unfolding read
 read-early t = every law t .moves
   where

@@ -2,19 +2,26 @@
 -- Assumes nothing.
 use mathlib.Core.Path.{_≡_, refl, sym}
 use mathlib.Core.Bool.{true, false}
+use mathlib.Core.List.{List}
 use Prim.Native.Nat.{ℕ, _+_, _<_, _≤_}
 use native.Mathlib.Omega.{arith}
 use lib.ListN.{List·getD-eq-default}
 use borrow.Author.Tests.{lt-ltb}
+use Rattle.wire.specs.declared.Refusal.the-variants.{BadOption}
+use Rattle.wire.specs.declared.Item.{Item}
 use Rattle.wire.specs.Tests.{pick, decided}
 use Rattle.wire.specs.Shape.{unit, Kind, plain, pooled, option, sequence, map, struct, enum, sameKind}
 use Rattle.wire.specs.Walk.{following}
 use Rattle.wire.specs.Table.{kinds, kindOf}
+use Rattle.wire.specs.Numbers.{took}
+use Rattle.wire.specs.Reading.{flag}
 use Rattle.laws.specs.KindRanges.{IsInner}
 use Rattle.laws.proofs.Splits.{by-lt, by-eq, not-both}
 use Rattle.laws.proofs.EachKind.{end, _&_, in-kinds, outer-kinds}
 use Rattle.table.specs.Parts.{followed}
+use Rattle.read_item.proofs.Heads.{head-option, head-struct}
 use Rattle.desk.specs.Path.{isField, isPassed, isThere}
+use Rattle.find.specs.Steps.{Owns}
 
 module _ (k : ℕ) where
   pub field-low : k ≤ 13 → true ≡ isField (kindOf k)
@@ -60,6 +67,14 @@ module _ (k : ℕ) where
   -- a path goes through kinds that have children
   pub passed-inner : isPassed (kindOf k) ≡ true → IsInner k
   passed-inner p = by-eq k 15 (λ e. (omega arith, omega arith)) (λ a. by-eq k 18 (λ e. (omega arith, omega arith)) (λ b. not-both p (sym (passed-not a b))))
+
+-- the own item of a kind that a path goes through
+module _ (k : ℕ) {s : List ℕ} where
+  pub owns-option : k ≡ 15 → {r : Item} → r ≡ flag BadOption s → Owns k s r
+  owns-option e q n p = q ∙ head-option n p s k e
+
+  pub owns-struct : isPassed (kindOf k) ≡ true → (k ≡ 15 → ⊥) → Owns k s (took 0 0 0)
+  owns-struct passed a n p = head-struct n p s k (by-eq k 18 (λ e. e) (λ b. not-both passed (sym (passed-not k a b))))
 
 -- what follows an item that a path goes through is all its children, and none where it is absent
 pub record Follows (k : Kind) (a from n : ℕ) : Type 0 where

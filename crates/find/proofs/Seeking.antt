@@ -17,10 +17,10 @@ use Rattle.wire.specs.declared.Layout.{Layout}
 use Rattle.wire.specs.declared.ReadAnswer.{ReadAnswer}
 use Rattle.wire.specs.declared.ReadAnswer.the-variants.{Done, Refused as NotRead}
 use Rattle.wire.specs.Tests.{given}
-use Rattle.wire.specs.Walk.{all, walk, walks}
+use Rattle.wire.specs.Walk.{following, all, walk, walks}
 use Rattle.wire.specs.Table.{u16At, kindOf, Node, nodeAt, recordOf, shapesAt}
 use Rattle.wire.specs.Values.{Entry}
-use Rattle.wire.specs.Reading.{head, judged, headBy, Spot, Run, Outcome, reached, refused, runAfter, readNothing, readOn, past, reading, read, within, fit}
+use Rattle.wire.specs.Reading.{head, Spot, Run, Outcome, reached, refused, runAfter, readNothing, readOn, past, reading, read, within, fit}
 use Rattle.laws.specs.Bounds.{Fits, takes}
 use Rattle.laws.specs.Tables.{nodeKind, nodeFirst, nodeCount, nodeChild, nodeShape, nodeShapes, GoodTable}
 use Rattle.laws.proofs.Bounds.{head-fits, head-sound}
@@ -29,13 +29,10 @@ use Rattle.laws.proofs.Parts.{tail, length-tail}
 use Rattle.laws.proofs.Runs.{fit-then}
 use Rattle.laws.proofs.Tables.{next-place}
 use Rattle.table.specs.declared.Stretch.{Stretch}
-use Rattle.table.specs.Parts.{Falls, rowStep}
+use Rattle.table.specs.Parts.{followed, Falls, rowStep}
 use Rattle.table.proofs.Stretches.{node-falls}
 use Rattle.leaf.specs.Leaves.{takeAt}
-use Rattle.read_item.specs.declared.Entered.{Entered}
-use Rattle.read_item.specs.declared.Entered.the-variants.{On}
-use Rattle.read_item.specs.declared.Entered.the-variants as entered
-use Rattle.read_item.specs.Steps.{spot, ownOf, afterOf, Enters, goes, stops}
+use Rattle.read_item.specs.Steps.{spot, ownOf, afterOf}
 use Rattle.read_item.proofs.Entering.{number-small}
 use Rattle.read_item.proofs.Heads.{head-leaf}
 use Rattle.reader.specs.Steps.{answerBehind}
@@ -46,7 +43,7 @@ use Rattle.desk.specs.Path.{isField, mostEntries, isThere}
 use Rattle.along.specs.Seek.{seekOn, seekItem, seek, seekAt}
 use Rattle.find.specs.declared.Passed.{Passed}
 use Rattle.find.specs.declared.Passed.the-variants.{In, Out}
-use Rattle.find.specs.Steps.{Inward, seekNode, seekBehind, Passes, inside, outside}
+use Rattle.find.specs.Steps.{Inward, Owns, seekNode, seekBehind, Passes, inside, outside}
 use Rattle.find.proofs.Passing.{field-outer, follows}
 
 -- ---- the fields in front, at once
@@ -193,24 +190,13 @@ module _ {s : List ℕ} {l : Layout} {i : ℕ} (g : GoodTable s l) (below : i < 
                 ≡ given (isThere (nodeKind r) (own .first)) (λ _. seekAt (nodeShapes s l i r) which path (mostEntries - (m + 1)) (past (own .used) (spot bs p))) (Absent p)
             took path = unfold seekNode in (with-room (which ∷ path) q ∙ (unfold seekItem in refl))
 
-        module _ {e : Entered} {store st : List ℕ} (entry : Enters l i r p m store (ownOf (headBy false) r (spot bs p)) e st) where
-          plainly : Enters l i r p m store (ownOf head r (spot bs p)) e st
-          unfolding ownOf headBy judged
-          plainly = entry
+        module _ (k : ℕ) (is : k ≡ r .number) {got : Item} (owns : Owns k bs got) where
+          own-passed : ownOf head r (spot bs p) ≡ got
+          unfolding ownOf
+          own-passed = sym (owns (nodeCount r) p ∙ ap (λ q. head (kindOf q) (nodeCount r) p bs) is)
 
-          pub pass-refused : {why : Refusal} → e ≡ entered.Refused why → Passes s l c bs p here (Out (Refused why p))
-          pass-refused {why} = go refl plainly
-            where
-              go : {own : Item} {f : Entered} {t : List ℕ} → ownOf head r (spot bs p) ≡ own → Enters l i r p m store own f t → f ≡ entered.Refused why → Passes s l c bs p here (Out (Refused why p))
-              go q (stops {e = x}) f = let same : x ≡ why = cc in rw (← same) (own-refused q)
-              go q goes f = let z : _≡_ {A = ℕ} 0 1 = cc in absurd (omega arith)
+          pub pass-refused : {why : Refusal} → got ≡ NotTaken why → Passes s l c bs p here (Out (Refused why p))
+          pass-refused q = own-refused (own-passed ∙ q)
 
-          pub pass-goes : {to : Stretch} {u : ℕ} → e ≡ On to u → Goes s l i which bs p m to u
-          pass-goes {to} {u} = go refl plainly
-            where
-              go : {own : Item} {f : Entered} {t : List ℕ} → ownOf head r (spot bs p) ≡ own → Enters l i r p m store own f t → f ≡ On to u → Goes s l i which bs p m to u
-              go q stops f = let z : _≡_ {A = ℕ} 0 1 = cc in absurd (omega arith)
-              go q (goes {own}) f =
-                  let way : afterOf l i r (own .first) ≡ to = cc in
-                  let used : own .used ≡ u = cc in
-                  rw (← way, ← used) (own-goes own q)
+          pub pass-goes : {own : Own} {to : Stretch} → got ≡ Took own → to ≡ followed (following (kindOf k) (own .first)) (nodeFirst l i r) (nodeCount r) → Goes s l i which bs p m to (own .used)
+          pass-goes {own} q e = rw (e ∙ (unfold afterOf in ap (λ n. followed (following (kindOf n) (own .first)) (nodeFirst l i r) (nodeCount r)) is)) (own-goes own (own-passed ∙ q))

@@ -7,9 +7,10 @@ use mathlib.Core.List.{List, [], _∷_}
 use mathlib.Core.Option.{Option, none, some}
 use Prim.Native.Nat.{ℕ, _+_, _-_, _*_, _≤_, _<_}
 use lib.ListN.{length, drop}
+use Rattle.wire.specs.declared.Item.{Item}
 use Rattle.wire.specs.declared.Layout.{Layout}
 use Rattle.wire.specs.Shape.{Kind}
-use Rattle.wire.specs.Table.{u16At, Node, nodeAt, recordOf, shapeOf}
+use Rattle.wire.specs.Table.{u16At, kindOf, Node, nodeAt, recordOf, shapeOf}
 use Rattle.wire.specs.Reading.{head, Spot, front, reading, fit}
 use Rattle.laws.specs.Tables.{nodeKind, nodeCount, nodeShape}
 use Rattle.table.specs.Parts.{rowStep}
@@ -28,6 +29,10 @@ isSome (some k) = true
 pub record Inward (r : Node) (which : ℕ) : Type 0 where
   pub passed : isPassed (nodeKind r) ≡ true
   pub there : which < nodeCount r
+
+-- the own item of a kind, whatever children it has and wherever it stands
+abbrev pub Owns : (number : ℕ) → List ℕ → Item → Type 0
+Owns number s r = (n p : ℕ) → r ≡ head (kindOf number) n p s
 
 -- a node, and then its child at a position and the rest of the path
 unfoldable pub seekNode : List ℕ → Layout → (i which room : ℕ) → Spot → (rest : List ℕ) → FindAnswer

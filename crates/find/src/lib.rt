@@ -1,9 +1,9 @@
 // One item of a message by its path: whether the path leads to one, by the table alone; and then along the path.
 use desk::FindAnswer;
-use read_item::Entered;
 use wire::Checked;
 use wire::Item;
 use wire::Layout;
+use wire::Own;
 use wire::ReadAnswer;
 use wire::Refusal;
 ghost use mathlib.Core.Path.{_≡_};
@@ -18,7 +18,7 @@ ghost use Rattle.table.specs.Parts.{Falls};
 ghost use Rattle.read_item.specs.Steps.{spot};
 ghost use Rattle.desk.specs.Path.{isField, isPassed, mostEntries, leads as leadsOf, finds};
 ghost use Rattle.along.specs.Seek.{seek as seekOf};
-ghost use Rattle.find.specs.Steps.{isSome, Inward, seekBehind, seekNode, Passes, Arrives};
+ghost use Rattle.find.specs.Steps.{isSome, Inward, Owns, seekBehind, seekNode, Passes, Arrives};
 
 // Every message is read as with a store of so many entries.
 const ROOM: usize = 16384;
@@ -130,6 +130,25 @@ fn skim_front(
     }
 }
 
+// The own bytes of an item that a path goes through. It isn't `read_item::enter`: a second caller would cost the reader that
+// function's inlining.
+fn own_bytes(number: u8, part: &[u8]) -> Item
+    requires { ⌜ isPassed (kindOf number) ≡ true ⌝ }
+    ensures { λ r. ⌜ Owns number (now (part .entry)) r ⌝ }
+{
+    match number {
+        15 => leaf::take_flag(part, Refusal::BadOption),
+        _ => Item::Took {
+            own: Own {
+                shortest: true,
+                first: 0,
+                second: 0,
+                used: 0,
+            },
+        },
+    }
+}
+
 // A struct or an option on the path, and then the fields in front of its child at a position. It wants room before its bytes
 // are looked at.
 fn pass(
@@ -156,28 +175,21 @@ fn pass(
         };
     }
     let number = table::kind_at(table, l, node);
-    let mut words: [u64; 1] = [0; 1];
-    let entered = read_item::enter(
-        false,
-        table,
-        l,
-        node,
-        number,
-        part,
-        place,
-        &mut words[0..0],
-        made,
-    );
-    match entered {
-        Entered::Refused { why } => Passed::Out {
+    let got = own_bytes(number, part);
+    match got {
+        Item::Refused { why } => Passed::Out {
             answer: FindAnswer::Refused { why, place },
         },
-        Entered::On { to, used } => {
+        Item::Took { own } => {
+            let from = table::first_child(table, l, node);
+            let width = table::child_count(table, l, node);
+            let to = table::follow(number, own.first, from, width);
             if to.rounds == 0 {
                 return Passed::Out {
                     answer: FindAnswer::Absent { place },
                 };
             }
+            let used = own.used;
             let after = place + used;
             let next = made + 1;
             skim_front(table, l, node, to.from, which, &part[used..], after, next)

@@ -1,6 +1,6 @@
 // Where the shapes of two tables part, if the append question is answered by no.
-use crate::path::node_at;
 use crate::path::DEEPEST;
+use crate::path::node_at;
 use crate::tree::say_bad;
 use crate::tree::say_node;
 use say::say;

@@ -1,7 +1,7 @@
 // One item of a message, found by its path.
 use crate::names::say_kind;
-use crate::path::node_at;
 use crate::path::DEEPEST;
+use crate::path::node_at;
 use crate::tree::say_bad;
 use crate::value::say_value;
 use desk::FindAnswer;
@@ -49,13 +49,7 @@ fn show_by(
 }
 
 // What the question for the item at a path answered: the item with its path, its value and its place, or why there is none.
-pub fn show(
-    table: &[u8],
-    path: &[u64; DEEPEST],
-    depth: usize,
-    message: &[u8],
-    answer: FindAnswer,
-) {
+pub fn show(table: &[u8], path: &[u64; DEEPEST], depth: usize, message: &[u8], answer: FindAnswer) {
     match table::check(table) {
         Checked::Bad { why, place } => say_bad(why, place),
         Checked::Good { layout } => show_by(table, layout, path, depth, message, answer),

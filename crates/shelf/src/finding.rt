@@ -7,19 +7,19 @@ ghost use Prim.Native.Nat.{_≤_};
 const DEEPEST: usize = 256;
 
 // What a word spells: a number, if it is digits alone.
-struct Decimal {
+struct Number {
     good: bool,
     value: u64,
 }
 
 // A number that leaves a word stays as large as it got: no table has so many positions.
-fn decimal(word: &[u8]) -> Decimal {
+fn decimal(word: &[u8]) -> Number {
     let mut value = 0u64;
     let mut i = 0;
     while i < word.len() {
         let digit = word[i];
         if digit < b'0' || b'9' < digit {
-            return Decimal {
+            return Number {
                 good: false,
                 value: 0,
             };
@@ -29,7 +29,7 @@ fn decimal(word: &[u8]) -> Decimal {
         }
         i += 1;
     }
-    Decimal {
+    Number {
         good: 0 < word.len(),
         value,
     }
@@ -42,7 +42,7 @@ enum Spelled {
 }
 
 // Puts the path of the command's words from the fifth on in front.
-fn spelled(path: &mut [u64; DEEPEST]) -> Spelled {
+fn path_of(path: &mut [u64; DEEPEST]) -> Spelled {
     let count = os::arg_count();
     let mut depth = 0;
     let mut i = 4;
@@ -63,7 +63,7 @@ fn spelled(path: &mut [u64; DEEPEST]) -> Spelled {
 // Finds the item at the path that the command's words spell.
 pub fn find(table: &[u8], message: &[u8]) {
     let mut path = [0u64; DEEPEST];
-    let Spelled::Path { depth } = spelled(&mut path) else {
+    let Spelled::Path { depth } = path_of(&mut path) else {
         return say(b"a path is up to 256 numbers in decimal\n");
     };
     if depth <= DEEPEST {

@@ -82,8 +82,8 @@ module _ (s : List ℕ) (l : Layout) (path : List ℕ) where
           ∙ sym (on-then room _ _ (rowStep (reading head) s l (from + 2) which) _)))
 
 -- the fields in front stand in the table as the child with them does
-pub falls-front : {s : List ℕ} {from n i : ℕ} → Falls s from (n + 1) i → Falls s from n i
-falls-front f = record { inside = omega (arith, f .inside); below = λ j h. f .below j (omega arith) }
+pub falls-front : {s : List ℕ} {from n m i : ℕ} → Falls s from n i → m ≤ n → Falls s from m i
+falls-front f l = record { inside = omega (arith, f .inside); below = λ j h. f .below j (omega arith) }
 
 -- a row that was skimmed behind the first m entries
 module _ (s : List ℕ) (l : Layout) (at which : ℕ) (bs : List ℕ) (p m : ℕ) {a : ReadAnswer}

@@ -173,12 +173,12 @@ fn pass(
             answer: FindAnswer::Refused { why, place },
         },
         Entered::On { to, used } => {
+            let after = place + used;
             if to.rounds == 0 {
                 return Passed::Out {
                     answer: FindAnswer::Absent { place },
                 };
             }
-            let after = place + used;
             let next = made + 1;
             skim_front(table, l, node, to.from, which, &part[used..], after, next)
         }

@@ -48,11 +48,11 @@ enum-known-entered c = search needs
 enum-known-entered-2 : tie.Need-enum-known-entered-2
 enum-known-entered-2 c = search needs
 
+add-after : tie.Need-add-after
+add-after c = let p = c .before .before .before .before .before .before .before .before .before .before .pre in omega (arith, on (c .before) .bytes, p .1 .1 .1)
+
 returns-2 : tie.Need-returns-2
 returns-2 c = on (c .before .before .before) .absent (c .if2 .taken)
-
-add-after : tie.Need-add-after
-add-after c = let p = c .before .before .before .before .before .before .before .before .before .before .before .before .pre in omega (arith, on (c .before .before .before) .bytes, p .1 .1 .1)
 
 add-next : tie.Need-add-next
 add-next c = search needs
@@ -91,8 +91,8 @@ pass-spec =
     enter-requires
     enum-known-entered
     enum-known-entered-2
-    returns-2
     add-after
+    returns-2
     add-next
     sub-skim-front
     part-skim-front-start

@@ -1,27 +1,25 @@
 -- The kinds that a path ends at or goes through, by their numbers, and what follows an item of the latter.
 -- Assumes nothing.
-use mathlib.Core.Path.{_≡_, refl, sym}
-use mathlib.Core.Bool.{true, false}
+use mathlib.Core.Path.{_≡_, refl, sym, _∙_}
+use mathlib.Core.Bool.{Bool, true, false}
 use mathlib.Core.List.{List}
 use Prim.Native.Nat.{ℕ, _+_, _<_, _≤_}
 use native.Mathlib.Omega.{arith}
 use lib.ListN.{List·getD-eq-default}
-use borrow.Author.Tests.{lt-ltb}
+use lib.Dec.{ltb}
 use Rattle.wire.specs.declared.Refusal.the-variants.{BadOption}
 use Rattle.wire.specs.declared.Item.{Item}
 use Rattle.wire.specs.Tests.{pick, decided}
 use Rattle.wire.specs.Shape.{unit, Kind, plain, pooled, option, sequence, map, struct, enum, sameKind}
-use Rattle.wire.specs.Walk.{following}
-use Rattle.wire.specs.Table.{kinds, kindOf}
+use Rattle.wire.specs.Table.{kinds, kindOf, Node}
 use Rattle.wire.specs.Numbers.{took}
 use Rattle.wire.specs.Reading.{flag}
 use Rattle.laws.specs.KindRanges.{IsInner}
 use Rattle.laws.proofs.Splits.{by-lt, by-eq, not-both}
 use Rattle.laws.proofs.EachKind.{end, _&_, in-kinds, outer-kinds}
-use Rattle.table.specs.Parts.{followed}
 use Rattle.read_item.proofs.Heads.{head-option, head-struct}
 use Rattle.desk.specs.Path.{isField, isPassed, isThere}
-use Rattle.find.specs.Steps.{Owns}
+use Rattle.find.specs.Steps.{Inward, Owns}
 
 module _ (k : ℕ) where
   pub field-low : k ≤ 13 → true ≡ isField (kindOf k)
@@ -64,30 +62,30 @@ module _ (k : ℕ) where
       apart : {n : ℕ} → (k ≡ n → ⊥) → n ≤ k → n + 1 ≤ k
       apart {n} other l = by-eq k n (λ e. absurd (other e)) (λ e. omega arith)
 
-  -- a path goes through kinds that have children
-  pub passed-inner : isPassed (kindOf k) ≡ true → IsInner k
-  passed-inner p = by-eq k 15 (λ e. (omega arith, omega arith)) (λ a. by-eq k 18 (λ e. (omega arith, omega arith)) (λ b. not-both p (sym (passed-not a b))))
+pub passed-eighteen : (k : ℕ) → isPassed (kindOf k) ≡ true → (k ≡ 15 → ⊥) → k ≡ 18
+passed-eighteen k passed a = by-eq k 18 (λ e. e) (λ b. not-both passed (sym (passed-not k a b)))
 
 -- the own item of a kind that a path goes through
-module _ (k : ℕ) {s : List ℕ} where
+module _ (k : ℕ) (s : List ℕ) where
   pub owns-option : k ≡ 15 → {r : Item} → r ≡ flag BadOption s → Owns k s r
   owns-option e q n p = q ∙ head-option n p s k e
 
   pub owns-struct : isPassed (kindOf k) ≡ true → (k ≡ 15 → ⊥) → Owns k s (took 0 0 0)
-  owns-struct passed a n p = head-struct n p s k (by-eq k 18 (λ e. e) (λ b. not-both passed (sym (passed-not k a b))))
+  owns-struct passed a n p = head-struct n p s k (passed-eighteen k passed a)
 
--- what follows an item that a path goes through is all its children, and none where it is absent
-pub record Follows (k : Kind) (a from n : ℕ) : Type 0 where
-  pub all : followed (following k a) from n .from ≡ from
-  pub gone : followed (following k a) from n .rounds ≡ 0 → isThere k a ≡ false
-  pub there : 0 < followed (following k a) from n .rounds → isThere k a ≡ true
+-- an option's inside is there unless its first word is 0, and a struct's always
+module _ (k a : ℕ) where
+  pub there-option : k ≡ 15 → ltb 0 a ≡ isThere (kindOf k) a
+  unfolding isThere sameKind decided pick kinds
+  there-option e = in-kinds (λ q. ltb 0 a ≡ isThere q a) 15 1 refl (refl & end) k (omega arith) (omega arith)
 
-pub follows : (k : Kind) (a from n : ℕ) → isPassed k ≡ true → Follows k a from n
-unfolding isPassed isThere sameKind decided pick following followed
-follows (plain l) a from n p = not-both p refl
-follows (pooled c) a from n p = not-both p refl
-follows option a from n p = record { all = refl; gone = λ e. rw e; there = λ h. lt-ltb 0 a h }
-follows sequence a from n p = not-both p refl
-follows map a from n p = not-both p refl
-follows struct a from n p = record { all = refl; gone = λ e. absurd (omega arith); there = λ h. refl }
-follows enum a from n p = not-both p refl
+  pub there-struct : isPassed (kindOf k) ≡ true → (k ≡ 15 → ⊥) → true ≡ isThere (kindOf k) a
+  unfolding isThere sameKind decided pick kinds
+  there-struct passed o = let e = passed-eighteen k passed o in in-kinds (λ q. true ≡ isThere q a) 18 1 refl (refl & end) k (omega arith) (omega arith)
+
+-- of the number that was read for a node's kind
+pub passed-number : {k which : ℕ} {r : Node} → k ≡ r .number → Inward r which → isPassed (kindOf k) ≡ true
+passed-number e inward = rw e (inward .passed)
+
+pub there-number : {k n : ℕ} (a : ℕ) → k ≡ n → {b : Bool} → isThere (kindOf k) a ≡ b → isThere (kindOf n) a ≡ b
+there-number a e h = rw (← e) h

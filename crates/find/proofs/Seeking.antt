@@ -17,7 +17,7 @@ use Rattle.wire.specs.declared.Layout.{Layout}
 use Rattle.wire.specs.declared.ReadAnswer.{ReadAnswer}
 use Rattle.wire.specs.declared.ReadAnswer.the-variants.{Done, Refused as NotRead}
 use Rattle.wire.specs.Tests.{given}
-use Rattle.wire.specs.Walk.{following, all, walk, walks}
+use Rattle.wire.specs.Walk.{all, walk, walks}
 use Rattle.wire.specs.Table.{u16At, kindOf, Node, nodeAt, recordOf, shapesAt}
 use Rattle.wire.specs.Values.{Entry}
 use Rattle.wire.specs.Reading.{head, Spot, Run, Outcome, reached, refused, runAfter, readNothing, readOn, past, reading, read, within, fit}
@@ -28,11 +28,10 @@ use Rattle.laws.proofs.Children.{count-children}
 use Rattle.laws.proofs.Parts.{tail, length-tail}
 use Rattle.laws.proofs.Runs.{fit-then}
 use Rattle.laws.proofs.Tables.{next-place}
-use Rattle.table.specs.declared.Stretch.{Stretch}
-use Rattle.table.specs.Parts.{followed, Falls, rowStep}
+use Rattle.table.specs.Parts.{Falls, rowStep}
 use Rattle.table.proofs.Stretches.{node-falls}
 use Rattle.leaf.specs.Leaves.{takeAt}
-use Rattle.read_item.specs.Steps.{spot, ownOf, afterOf}
+use Rattle.read_item.specs.Steps.{spot, ownOf}
 use Rattle.read_item.proofs.Entering.{number-small}
 use Rattle.read_item.proofs.Heads.{head-leaf}
 use Rattle.reader.specs.Steps.{answerBehind}
@@ -44,7 +43,7 @@ use Rattle.along.specs.Seek.{seekOn, seekItem, seek, seekAt}
 use Rattle.find.specs.declared.Passed.{Passed}
 use Rattle.find.specs.declared.Passed.the-variants.{In, Out}
 use Rattle.find.specs.Steps.{Inward, Owns, seekNode, seekBehind, Passes, inside, outside}
-use Rattle.find.proofs.Passing.{field-outer, follows}
+use Rattle.find.proofs.Passing.{field-outer}
 
 -- ---- the fields in front, at once
 
@@ -79,8 +78,8 @@ module _ (s : List ℕ) (l : Layout) (path : List ℕ) where
           ∙ sym (on-then room _ _ (rowStep (reading head) s l (from + 2) which) _)))
 
 -- the fields in front stand in the table as the child with them does
-pub falls-front : {s : List ℕ} {from n i : ℕ} → Falls s from (n + 1) i → Falls s from n i
-falls-front f = record { inside = omega (arith, f .inside); below = λ j h. f .below j (omega arith) }
+pub falls-front : {s : List ℕ} {from n m i : ℕ} → Falls s from n i → m ≤ n → Falls s from m i
+falls-front f l = record { inside = omega (arith, f .inside); below = λ j h. f .below j (omega arith) }
 
 -- a row that was skimmed behind the first m entries
 module _ (s : List ℕ) (l : Layout) (at which : ℕ) (bs : List ℕ) (p m : ℕ) {a : ReadAnswer}
@@ -113,15 +112,15 @@ passes-behind {s} {l} {c} bs p u whole here h same (inside {q} {m} up fits e) =
 
 -- ---- an item of a node
 
--- An item that the path goes through was taken: its own bytes are there, and the fields in front of the child stand in the table
--- with it. The answer is that of an absent option, or of what comes behind the fields in front.
-pub record Goes (s : List ℕ) (l : Layout) (i which : ℕ) (bs : List ℕ) (p m : ℕ) (to : Stretch) (used : ℕ) : Type 0 where
+-- An item that the path goes through was taken, with the first word a: its own bytes are there, and the fields in front of the
+-- child stand in the table with it. The answer is that of an absent option, or of what comes behind the fields in front.
+pub record Goes (s : List ℕ) (l : Layout) (i which : ℕ) (bs : List ℕ) (p m a used : ℕ) : Type 0 where
   pub bytes : used ≤ length bs
-  pub falls : Falls s (to .from) (which + 1) i
-  pub child : nodeChild s l i (nodeAt s (recordOf l i)) which ≡ u16At s (to .from + 2 * which)
-  pub absent : to .rounds ≡ 0 → Passes s l (nodeChild s l i (nodeAt s (recordOf l i)) which) bs p (seekNode s l i which (mostEntries - m) (spot bs p)) (Out (Absent p))
-  pub rest : 0 < to .rounds → (path : List ℕ) → seekNode s l i which (mostEntries - m) (spot bs p) path
-      ≡ seekBehind s l (to .from) which (mostEntries - (m + 1)) (spot (take (length bs - used) (drop used bs)) (p + used)) path
+  pub falls : Falls s (nodeFirst l i (nodeAt s (recordOf l i))) (which + 1) i
+  pub absent : isThere (nodeKind (nodeAt s (recordOf l i))) a ≡ false
+      → Passes s l (nodeChild s l i (nodeAt s (recordOf l i)) which) bs p (seekNode s l i which (mostEntries - m) (spot bs p)) (Out (Absent p))
+  pub rest : isThere (nodeKind (nodeAt s (recordOf l i))) a ≡ true → (path : List ℕ) → seekNode s l i which (mostEntries - m) (spot bs p) path
+      ≡ seekBehind s l (nodeFirst l i (nodeAt s (recordOf l i))) which (mostEntries - (m + 1)) (spot (take (length bs - used) (drop used bs)) (p + used)) path
 
 module _ {s : List ℕ} {l : Layout} {i : ℕ} (g : GoodTable s l) (below : i < l .nodes) where
   abbrev r : Node
@@ -171,16 +170,14 @@ module _ {s : List ℕ} {l : Layout} {i : ℕ} (g : GoodTable s l) (below : i < 
         own-refused : {why : Refusal} → ownOf head r (spot bs p) ≡ NotTaken why → Passes s l c bs p here (Out (Refused why p))
         own-refused {why} q = outside {answer = Refused why p} (λ rest. unfold seekNode in (with-room (which ∷ rest) q ∙ (unfold seekItem in refl)))
 
-        own-goes : (own : Own) → ownOf head r (spot bs p) ≡ Took own → Goes s l i which bs p m (afterOf l i r (own .first)) (own .used)
+        own-goes : (own : Own) → ownOf head r (spot bs p) ≡ Took own → Goes s l i which bs p m (own .first) (own .used)
         own-goes own q =
-            let f = follows (nodeKind r) (own .first) (nodeFirst l i r) (nodeCount r) (inward .passed) in
             let n = node-falls g below in
             record {
               bytes = ends (unfold ownOf in (rw q at (head-fits (nodeKind r) (nodeCount r) p bs)));
-              falls = unfold afterOf in rw (f .all) (record { inside = omega (arith, n .inside, inward .there); below = λ j h. n .below j (omega (arith, inward .there)) });
-              child = unfold afterOf in rw (f .all);
-              absent = λ z. outside {answer = Absent p} (λ path. took path ∙ rw (f .gone (unfold afterOf in z)) (unfold given in refl));
-              rest = λ z path. took path ∙ rw (f .there (unfold afterOf in z)) (unfold given in (at-once s l path (nodeFirst l i r) (nodeCount r) which (mostEntries - (m + 1)) (past (own .used) (spot bs p)) (inward .there) ∙ (unfold past afterOf in rw (f .all, tail bs (own .used)))));
+              falls = record { inside = omega (arith, n .inside, inward .there); below = λ j h. n .below j (omega (arith, inward .there)) };
+              absent = λ z. outside {answer = Absent p} (λ path. took path ∙ rw z (unfold given in refl));
+              rest = λ z path. took path ∙ rw z (unfold given in (at-once s l path (nodeFirst l i r) (nodeCount r) which (mostEntries - (m + 1)) (past (own .used) (spot bs p)) (inward .there) ∙ (unfold past in rw (tail bs (own .used)))));
             }
           where
             ends : Fits bs (Took own) → own .used ≤ length bs
@@ -198,5 +195,5 @@ module _ {s : List ℕ} {l : Layout} {i : ℕ} (g : GoodTable s l) (below : i < 
           pub pass-refused : {why : Refusal} → got ≡ NotTaken why → Passes s l c bs p here (Out (Refused why p))
           pass-refused q = own-refused (own-passed ∙ q)
 
-          pub pass-goes : {own : Own} {to : Stretch} → got ≡ Took own → to ≡ followed (following (kindOf k) (own .first)) (nodeFirst l i r) (nodeCount r) → Goes s l i which bs p m to (own .used)
-          pass-goes {own} q e = rw (e ∙ (unfold afterOf in ap (λ n. followed (following (kindOf n) (own .first)) (nodeFirst l i r) (nodeCount r)) is)) (own-goes own (own-passed ∙ q))
+          pub pass-goes : {own : Own} → got ≡ Took own → Goes s l i which bs p m (own .first) (own .used)
+          pass-goes {own} q = own-goes own (own-passed ∙ q)

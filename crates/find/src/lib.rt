@@ -16,7 +16,7 @@ ghost use Rattle.wire.specs.Reading.{front};
 ghost use Rattle.laws.specs.Tables.{nodeKind, nodeCount, nodeChild, nodeShape, GoodTable};
 ghost use Rattle.table.specs.Parts.{Falls};
 ghost use Rattle.read_item.specs.Steps.{spot};
-ghost use Rattle.desk.specs.Path.{isField, isPassed, mostEntries, leads as leadsOf, finds};
+ghost use Rattle.desk.specs.Path.{isField, isPassed, isThere, mostEntries, leads as leadsOf, finds};
 ghost use Rattle.along.specs.Seek.{seek as seekOf};
 ghost use Rattle.find.specs.Steps.{isSome, Inward, Owns, seekBehind, seekNode, Passes, Arrives};
 
@@ -149,6 +149,17 @@ fn own_bytes(number: u8, part: &[u8]) -> Item
     }
 }
 
+// Whether an item that a path goes through has an inside: an option read as absent has none.
+fn is_there(number: u8, first: u64) -> bool
+    requires { ⌜ isPassed (kindOf number) ≡ true ⌝ }
+    ensures { λ r. ⌜ r ≡ isThere (kindOf number) first ⌝ }
+{
+    if number == 15 {
+        return 0 < first;
+    }
+    true
+}
+
 // A struct or an option on the path, and then the fields in front of its child at a position. It wants room before its bytes
 // are looked at.
 fn pass(
@@ -181,18 +192,16 @@ fn pass(
             answer: FindAnswer::Refused { why, place },
         },
         Item::Took { own } => {
-            let from = table::first_child(table, l, node);
-            let width = table::child_count(table, l, node);
-            let to = table::follow(number, own.first, from, width);
-            if to.rounds == 0 {
+            let used = own.used;
+            let after = place + used;
+            if !is_there(number, own.first) {
                 return Passed::Out {
                     answer: FindAnswer::Absent { place },
                 };
             }
-            let used = own.used;
-            let after = place + used;
             let next = made + 1;
-            skim_front(table, l, node, to.from, which, &part[used..], after, next)
+            let from = table::first_child(table, l, node);
+            skim_front(table, l, node, from, which, &part[used..], after, next)
         }
     }
 }

@@ -7,7 +7,7 @@ use Rattle.find.proofs.skim_front.Statement.{statement}
 use Rattle.find.proofs.skim_front.Tie as tie
 
 skim-row-requires : tie.Need-skim-row-requires
-skim-row-requires c κs = let p = c .before .before .pre in (p .0, (omega arith, (falls-front (p .1 .1 .0), p .1 .1 .1)))
+skim-row-requires c κs = let p = c .before .before .pre in (p .0, (omega arith, (falls-front (p .1 .1 .0) (omega arith), p .1 .1 .1)))
 
 enum-known-got : tie.Need-enum-known-got
 enum-known-got c = search needs

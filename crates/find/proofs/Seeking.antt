@@ -20,7 +20,7 @@ use Rattle.wire.specs.Tests.{given}
 use Rattle.wire.specs.Walk.{all, walk, walks}
 use Rattle.wire.specs.Table.{u16At, kindOf, Node, nodeAt, recordOf, shapesAt}
 use Rattle.wire.specs.Values.{Entry}
-use Rattle.wire.specs.Reading.{head, judged, headBy, Spot, Run, Outcome, reached, refused, runAfter, readNothing, readOn, past, reading, read, within, fit}
+use Rattle.wire.specs.Reading.{head, Spot, Run, Outcome, reached, refused, runAfter, readNothing, readOn, past, reading, read, within, fit}
 use Rattle.laws.specs.Bounds.{Fits, takes}
 use Rattle.laws.specs.Tables.{nodeKind, nodeFirst, nodeCount, nodeChild, nodeShape, nodeShapes, GoodTable}
 use Rattle.laws.proofs.Bounds.{head-fits, head-sound}
@@ -28,14 +28,10 @@ use Rattle.laws.proofs.Children.{count-children}
 use Rattle.laws.proofs.Parts.{tail, length-tail}
 use Rattle.laws.proofs.Runs.{fit-then}
 use Rattle.laws.proofs.Tables.{next-place}
-use Rattle.table.specs.declared.Stretch.{Stretch}
 use Rattle.table.specs.Parts.{Falls, rowStep}
 use Rattle.table.proofs.Stretches.{node-falls}
 use Rattle.leaf.specs.Leaves.{takeAt}
-use Rattle.read_item.specs.declared.Entered.{Entered}
-use Rattle.read_item.specs.declared.Entered.the-variants.{On}
-use Rattle.read_item.specs.declared.Entered.the-variants as entered
-use Rattle.read_item.specs.Steps.{spot, ownOf, afterOf, Enters, goes, stops}
+use Rattle.read_item.specs.Steps.{spot, ownOf}
 use Rattle.read_item.proofs.Entering.{number-small}
 use Rattle.read_item.proofs.Heads.{head-leaf}
 use Rattle.reader.specs.Steps.{answerBehind}
@@ -47,7 +43,7 @@ use Rattle.along.specs.Seek.{seekOn, seekItem, seek, seekAt}
 use Rattle.find.specs.declared.Passed.{Passed}
 use Rattle.find.specs.declared.Passed.the-variants.{In, Out}
 use Rattle.find.specs.Steps.{Inward, seekNode, seekBehind, Passes, inside, outside}
-use Rattle.find.proofs.Passing.{field-outer, follows}
+use Rattle.find.proofs.Passing.{field-outer, passed-own}
 
 -- ---- the fields in front, at once
 
@@ -118,13 +114,13 @@ passes-behind {s} {l} {c} bs p u whole here h same (inside {q} {m} up fits e) =
 
 -- An item that the path goes through was taken: its own bytes are there, and the fields in front of the child stand in the table
 -- with it. The answer is that of an absent option, or of what comes behind the fields in front.
-pub record Goes (s : List ℕ) (l : Layout) (i which : ℕ) (bs : List ℕ) (p m : ℕ) (to : Stretch) (used : ℕ) : Type 0 where
-  pub bytes : used ≤ length bs
-  pub falls : Falls s (to .from) (which + 1) i
-  pub child : nodeChild s l i (nodeAt s (recordOf l i)) which ≡ u16At s (to .from + 2 * which)
-  pub absent : to .rounds ≡ 0 → Passes s l (nodeChild s l i (nodeAt s (recordOf l i)) which) bs p (seekNode s l i which (mostEntries - m) (spot bs p)) (Out (Absent p))
-  pub rest : 0 < to .rounds → (path : List ℕ) → seekNode s l i which (mostEntries - m) (spot bs p) path
-      ≡ seekBehind s l (to .from) which (mostEntries - (m + 1)) (spot (take (length bs - used) (drop used bs)) (p + used)) path
+pub record Goes (s : List ℕ) (l : Layout) (i which : ℕ) (bs : List ℕ) (p m : ℕ) (own : Own) : Type 0 where
+  pub bytes : own .used ≤ length bs
+  pub falls : Falls s (nodeFirst l i (nodeAt s (recordOf l i))) (which + 1) i
+  pub absent : isThere (nodeKind (nodeAt s (recordOf l i))) (own .first) ≡ false
+      → Passes s l (nodeChild s l i (nodeAt s (recordOf l i)) which) bs p (seekNode s l i which (mostEntries - m) (spot bs p)) (Out (Absent p))
+  pub rest : isThere (nodeKind (nodeAt s (recordOf l i))) (own .first) ≡ true → (path : List ℕ) → seekNode s l i which (mostEntries - m) (spot bs p) path
+      ≡ seekBehind s l (nodeFirst l i (nodeAt s (recordOf l i))) which (mostEntries - (m + 1)) (spot (take (length bs - own .used) (drop (own .used) bs)) (p + own .used)) path
 
 module _ {s : List ℕ} {l : Layout} {i : ℕ} (g : GoodTable s l) (below : i < l .nodes) where
   abbrev r : Node
@@ -163,54 +159,36 @@ module _ {s : List ℕ} {l : Layout} {i : ℕ} (g : GoodTable s l) (below : i < 
         pub field-found : {own : Own} → got ≡ Took own → Found (own .first) (own .second) p ≡ seek (nodeShape s l i) [] (mostEntries - m) (spot bs p)
         field-found q = sym (with-room [] (own-field ∙ q) ∙ (unfold seekItem in refl))
 
-      -- one that the path goes through, as it was entered
-      module _ {which : ℕ} (inward : Inward r which) where
+      -- one that the path goes through
+      module _ {which : ℕ} (inward : Inward r which) (k : ℕ) (is : k ≡ r .number) {got : Item} (took : got ≡ head (kindOf k) 0 0 bs) where
         abbrev c : ℕ
         c = nodeChild s l i r which
 
         abbrev here : List ℕ → FindAnswer
         here = seekNode s l i which (mostEntries - m) (spot bs p)
 
-        own-refused : {why : Refusal} → ownOf head r (spot bs p) ≡ NotTaken why → Passes s l c bs p here (Out (Refused why p))
-        own-refused {why} q = outside {answer = Refused why p} (λ rest. unfold seekNode in (with-room (which ∷ rest) q ∙ (unfold seekItem in refl)))
+        own-passed : ownOf head r (spot bs p) ≡ got
+        unfolding ownOf
+        own-passed = passed-own (nodeKind r) (nodeCount r) p bs (inward .passed) ∙ ap (λ q. head (kindOf q) 0 0 bs) (sym is) ∙ sym took
 
-        own-goes : (own : Own) → ownOf head r (spot bs p) ≡ Took own → Goes s l i which bs p m (afterOf l i r (own .first)) (own .used)
-        own-goes own q =
-            let f = follows (nodeKind r) (own .first) (nodeFirst l i r) (nodeCount r) (inward .passed) in
+        pub pass-refused : {why : Refusal} → got ≡ NotTaken why → Passes s l c bs p here (Out (Refused why p))
+        pass-refused {why} q = outside {answer = Refused why p} (λ rest. unfold seekNode in (with-room (which ∷ rest) (own-passed ∙ q) ∙ (unfold seekItem in refl)))
+
+        pub pass-goes : {own : Own} → got ≡ Took own → Goes s l i which bs p m own
+        pass-goes {own} q =
             let n = node-falls g below in
             record {
-              bytes = ends (unfold ownOf in (rw q at (head-fits (nodeKind r) (nodeCount r) p bs)));
-              falls = unfold afterOf in rw (f .all) (record { inside = omega (arith, n .inside, inward .there); below = λ j h. n .below j (omega (arith, inward .there)) });
-              child = unfold afterOf in rw (f .all);
-              absent = λ z. outside {answer = Absent p} (λ path. took path ∙ rw (f .gone (unfold afterOf in z)) (unfold given in refl));
-              rest = λ z path. took path ∙ rw (f .there (unfold afterOf in z)) (unfold given in (at-once s l path (nodeFirst l i r) (nodeCount r) which (mostEntries - (m + 1)) (past (own .used) (spot bs p)) (inward .there) ∙ (unfold past afterOf in rw (f .all, tail bs (own .used)))));
+              bytes = ends (rw (sym took ∙ q) at (head-fits (kindOf k) 0 0 bs));
+              falls = record { inside = omega (arith, n .inside, inward .there); below = λ j h. n .below j (omega (arith, inward .there)) };
+              absent = λ t. outside {answer = Absent p} (λ path. goes-on path ∙ rw t (unfold given in refl));
+              rest = λ t path.
+                  goes-on path
+                  ∙ rw t (unfold given in (at-once s l path (nodeFirst l i r) (nodeCount r) which (mostEntries - (m + 1)) (past (own .used) (spot bs p)) (inward .there) ∙ (unfold past in rw (tail bs (own .used)))));
             }
           where
             ends : Fits bs (Took own) → own .used ≤ length bs
             ends (takes h) = h
 
-            took : (path : List ℕ) → here path
+            goes-on : (path : List ℕ) → here path
                 ≡ given (isThere (nodeKind r) (own .first)) (λ _. seekAt (nodeShapes s l i r) which path (mostEntries - (m + 1)) (past (own .used) (spot bs p))) (Absent p)
-            took path = unfold seekNode in (with-room (which ∷ path) q ∙ (unfold seekItem in refl))
-
-        module _ {e : Entered} {store st : List ℕ} (entry : Enters l i r p m store (ownOf (headBy false) r (spot bs p)) e st) where
-          plainly : Enters l i r p m store (ownOf head r (spot bs p)) e st
-          unfolding ownOf headBy judged
-          plainly = entry
-
-          pub pass-refused : {why : Refusal} → e ≡ entered.Refused why → Passes s l c bs p here (Out (Refused why p))
-          pass-refused {why} = go refl plainly
-            where
-              go : {own : Item} {f : Entered} {t : List ℕ} → ownOf head r (spot bs p) ≡ own → Enters l i r p m store own f t → f ≡ entered.Refused why → Passes s l c bs p here (Out (Refused why p))
-              go q (stops {e = x}) f = let same : x ≡ why = cc in rw (← same) (own-refused q)
-              go q goes f = let z : _≡_ {A = ℕ} 0 1 = cc in absurd (omega arith)
-
-          pub pass-goes : {to : Stretch} {u : ℕ} → e ≡ On to u → Goes s l i which bs p m to u
-          pass-goes {to} {u} = go refl plainly
-            where
-              go : {own : Item} {f : Entered} {t : List ℕ} → ownOf head r (spot bs p) ≡ own → Enters l i r p m store own f t → f ≡ On to u → Goes s l i which bs p m to u
-              go q stops f = let z : _≡_ {A = ℕ} 0 1 = cc in absurd (omega arith)
-              go q (goes {own}) f =
-                  let way : afterOf l i r (own .first) ≡ to = cc in
-                  let used : own .used ≡ u = cc in
-                  rw (← way, ← used) (own-goes own q)
+            goes-on path = unfold seekNode in (with-room (which ∷ path) (own-passed ∙ q) ∙ (unfold seekItem in refl))

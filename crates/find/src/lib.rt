@@ -1,9 +1,9 @@
 // One item of a message by its path: whether the path leads to one, by the table alone; and then along the path.
 use desk::FindAnswer;
-use read_item::Entered;
 use wire::Checked;
 use wire::Item;
 use wire::Layout;
+use wire::Own;
 use wire::ReadAnswer;
 use wire::Refusal;
 ghost use mathlib.Core.Path.{_≡_};
@@ -12,11 +12,11 @@ ghost use mathlib.Core.List.{[]};
 ghost use Prim.Native.Nat.{_+_, _*_, _-_, _^_, _<_};
 ghost use lib.ListN.{length};
 ghost use Rattle.wire.specs.Table.{u16At, kindOf, nodeAt, recordOf, shapeOf};
-ghost use Rattle.wire.specs.Reading.{front};
+ghost use Rattle.wire.specs.Reading.{head, front};
 ghost use Rattle.laws.specs.Tables.{nodeKind, nodeCount, nodeChild, nodeShape, GoodTable};
 ghost use Rattle.table.specs.Parts.{Falls};
 ghost use Rattle.read_item.specs.Steps.{spot};
-ghost use Rattle.desk.specs.Path.{isField, isPassed, mostEntries, leads as leadsOf, finds};
+ghost use Rattle.desk.specs.Path.{isField, isPassed, mostEntries, isThere, leads as leadsOf, finds};
 ghost use Rattle.along.specs.Seek.{seek as seekOf};
 ghost use Rattle.find.specs.Steps.{isSome, Inward, seekBehind, seekNode, Passes, Arrives};
 
@@ -130,6 +130,35 @@ fn skim_front(
     }
 }
 
+// The own bytes of an option or a struct. They are taken here, as the reader does it: what has two callers stays a call, and
+// every reading would pay for that.
+fn own_bytes(number: u8, part: &[u8]) -> Item
+    requires { ⌜ isPassed (kindOf number) ≡ true ⌝ }
+    ensures { λ r. ⌜ r ≡ head (kindOf number) 0 0 (now (part .entry)) ⌝ }
+{
+    if number == 15 {
+        return leaf::take_flag(part, Refusal::BadOption);
+    }
+    Item::Took {
+        own: Own {
+            first: 0,
+            second: 0,
+            used: 0,
+            shortest: true,
+        },
+    }
+}
+
+// Whether an item that was read so has an inside: an option may be absent.
+fn is_there(number: u8, first: u64) -> bool
+    ensures { λ r. ⌜ r ≡ isThere (kindOf number) first ⌝ }
+{
+    match number {
+        15 => 0 < first,
+        _ => true,
+    }
+}
+
 // A struct or an option on the path, and then the fields in front of its child at a position. It wants room before its bytes
 // are looked at.
 fn pass(
@@ -156,31 +185,22 @@ fn pass(
         };
     }
     let number = table::kind_at(table, l, node);
-    let mut words: [u64; 1] = [0; 1];
-    let entered = read_item::enter(
-        false,
-        table,
-        l,
-        node,
-        number,
-        part,
-        place,
-        &mut words[0..0],
-        made,
-    );
-    match entered {
-        Entered::Refused { why } => Passed::Out {
+    let got = own_bytes(number, part);
+    match got {
+        Item::Refused { why } => Passed::Out {
             answer: FindAnswer::Refused { why, place },
         },
-        Entered::On { to, used } => {
+        Item::Took { own } => {
+            let used = own.used;
             let after = place + used;
-            if to.rounds == 0 {
-                return Passed::Out {
-                    answer: FindAnswer::Absent { place },
-                };
+            if is_there(number, own.first) {
+                let from = table::first_child(table, l, node);
+                let next = made + 1;
+                return skim_front(table, l, node, from, which, &part[used..], after, next);
             }
-            let next = made + 1;
-            skim_front(table, l, node, to.from, which, &part[used..], after, next)
+            Passed::Out {
+                answer: FindAnswer::Absent { place },
+            }
         }
     }
 }

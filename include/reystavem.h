@@ -9,6 +9,8 @@
  *    4  a varint is too long or too large        10  the store has no room for an item's entry
  *    5  a bool is neither 0 nor 1                11  a value list doesn't fit the table
  *    6  a char isn't one                         12  the output is too short
+ *   13  the path doesn't lead to an item that can be asked for
+ *   14  an option on the path is absent
  *   16  not shortest: an item's bytes aren't the ones that a writer writes for its value
  *   20 to 24, a feed's answers: consumed, over-full, bad frame, frame, bad state
  *   25  the work area is too short
@@ -83,6 +85,18 @@ uint64_t reystavem_feed(uint8_t *array, size_t array_len,
  * 0 on a refusal. */
 uint64_t reystavem_take(uint64_t kind, const uint8_t *message, size_t message_len,
                         uint64_t *place, uint64_t *first, uint64_t *second, uint64_t *at);
+
+/* Finds one item of kind 0 to 13 or 20 to 31, with no store for the others. The path leads to it from
+ * the root: at a struct a field's position, from 0 on, at an option 0; an empty one means the root.
+ * *first, *second and *place: the item's entry, as reystavem_read puts it into a store of 16384
+ * entries. What follows the item isn't looked at; what that reading refuses before the item or at it
+ * is refused the same. 13, at place 0 and before the message is looked at: the path doesn't lead to
+ * such an item. 14: an option on the path is absent; *place is the first such option's. *first and
+ * *second are 0 on a refusal. */
+uint64_t reystavem_find(const uint8_t *table, size_t table_len,
+                        const uint64_t *path, size_t path_len,
+                        const uint8_t *message, size_t message_len,
+                        uint64_t *place, uint64_t *first, uint64_t *second);
 
 #ifdef __cplusplus
 }

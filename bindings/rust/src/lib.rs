@@ -78,6 +78,17 @@ mod ffi {
             second: *mut u64,
             at: *mut u64,
         ) -> u64;
+        pub fn reystavem_find(
+            table: *const u8,
+            table_len: usize,
+            path: *const u64,
+            path_len: usize,
+            message: *const u8,
+            message_len: usize,
+            place: *mut u64,
+            first: *mut u64,
+            second: *mut u64,
+        ) -> u64;
     }
 }
 
@@ -109,6 +120,10 @@ pub enum Why {
     Values = 11,
     /// The output is too short.
     Full = 12,
+    /// The path doesn't lead to an item that can be asked for.
+    Path = 13,
+    /// An option on the path is absent.
+    Absent = 14,
     /// An item's bytes aren't the ones that a writer writes for its value; strict reading only.
     NotShortest = 16,
     /// The work area is shorter than `AREA`.
@@ -130,6 +145,8 @@ impl Why {
             10 => Why::Room,
             11 => Why::Values,
             12 => Why::Full,
+            13 => Why::Path,
+            14 => Why::Absent,
             16 => Why::NotShortest,
             25 => Why::Area,
             _ => unreachable!("the library's contract has no other number"),
@@ -432,6 +449,45 @@ impl<'m> Deserializer<'m> {
     /// The bytes from the place on.
     pub fn rest(&self) -> &'m [u8] {
         self.message.get(self.place..).unwrap_or(&[])
+    }
+}
+
+/// Finds one item of kind 0 to 13 or 20 to 31, with no store for the others: its entry, as `read` puts it into a store
+/// of 16,384 entries.
+///
+/// The path leads to it from the root: at a struct a field's position, from 0 on, at an option 0; an empty one means the
+/// root. What follows the item isn't looked at; what a reading refuses before the item or at it is refused the same. An
+/// option on the path that is absent is refused at its own place.
+///
+/// ```
+/// # let table = reystavem::samples::TABLE_T;
+/// let store = reystavem::find(table, &[0], &[0xac, 0x02, 0x05, 0x03]).unwrap();
+/// assert_eq!((store.first, store.place), (300, 0));
+/// ```
+#[inline]
+pub fn find(table: &[u8], path: &[u64], message: &[u8]) -> Result<Entry, Refused> {
+    let (mut place, mut first, mut second) = (0, 0, 0);
+    // SAFETY: each slice is lent with its own length; the numbers are ours.
+    let number = unsafe {
+        ffi::reystavem_find(
+            table.as_ptr(),
+            table.len(),
+            path.as_ptr(),
+            path.len(),
+            message.as_ptr(),
+            message.len(),
+            &mut place,
+            &mut first,
+            &mut second,
+        )
+    };
+    match number {
+        0 => Ok(Entry {
+            first,
+            second,
+            place: place as usize,
+        }),
+        _ => Err(refused(number, place)),
     }
 }
 

@@ -8,6 +8,15 @@ fn leaf(kind: u8) -> Vec<u8> {
     vec![kind, 0, 0, 0, 0, 0, 0, 0, 6, 0, 1, 0, 0, 0, 0x53, 0x50]
 }
 
+/// A table of records (kind, a, b) and a child list, whose root is the last node.
+fn table(records: &[[u8; 3]], children: &[u8]) -> Vec<u8> {
+    let mut file: Vec<u8> = records.iter().flat_map(|[kind, a, b]| [*kind, 0, *a, 0, *b, 0]).collect();
+    file.extend(children.iter().flat_map(|child| [*child, 0]));
+    let (nodes, list) = (records.len() as u8, 2 * children.len() as u8);
+    file.extend([list, 0, 6 * nodes + list, 0, nodes, 0, nodes - 1, 0, 0x53, 0x50]);
+    file
+}
+
 fn four_fields(children: [u8; 8]) -> Vec<u8> {
     let mut table = TABLE_T[..18].to_vec();
     table.extend([0x12, 0, 0, 0, 4, 0]);
@@ -199,4 +208,60 @@ fn single_items() {
     assert_eq!(items.take(14), Err(Refused { why: Why::Record, place: 0 }));
     assert_eq!(items.take(6), Err(Refused { why: Why::End, place: 4 }));
     assert_eq!(items.rest(), [0x80]);
+}
+
+#[test]
+fn one_field_without_the_others() {
+    let message = [0xac, 0x02, 0x05, 0x03, 0x07];
+    let fields = [(300, 0), (5, 2), (MINUS_TWO, 3)];
+    for (field, (first, place)) in fields.into_iter().enumerate() {
+        let found = Entry { first, second: 0, place };
+        assert_eq!(find(TABLE_T, &[field as u64], &message), Ok(found));
+        // What follows the field isn't looked at, and what is in front of it must be there.
+        let behind = [2, 3, 4][field];
+        assert_eq!(find(TABLE_T, &[field as u64], &message[..behind]), Ok(found));
+        let ends = Refused { why: Why::End, place };
+        assert_eq!(find(TABLE_T, &[field as u64], &message[..behind - 1]), Err(ends));
+    }
+    assert_eq!(find(&leaf(12), &[], &[0x02, 0x61, 0x62]), Ok(Entry { first: 1, second: 2, place: 0 }));
+}
+
+#[test]
+fn a_path_that_leads_to_no_item_is_refused_before_the_message() {
+    let no_item = Refused { why: Why::Path, place: 0 };
+    for path in [&[][..], &[3], &[0, 0], &[u64::MAX], &[1 << 32]] {
+        for message in [&[0xac, 0x02, 0x05, 0x03][..], &[]] {
+            assert_eq!(find(TABLE_T, path, message), Err(no_item));
+        }
+    }
+    // A unit, and what is inside a sequence; but a bad table comes first.
+    assert_eq!(find(&leaf(14), &[], &[]), Err(no_item));
+    assert_eq!(find(&table(&[[5, 0, 0], [16, 0, 0]], &[]), &[0], &[1, 7]), Err(no_item));
+    assert_eq!(find(&[], &[3], &[]), Err(Refused { why: Why::Trailer, place: 0 }));
+    assert_eq!(find(&leaf(32), &[3], &[]), Err(Refused { why: Why::Record, place: 0 }));
+}
+
+#[test]
+fn options_on_the_path_and_beside_it() {
+    // A u8 that may be absent, and a struct that may be, with such a u8 inside.
+    let shelf = table(&[[5, 0, 0], [15, 0, 0], [18, 0, 1], [15, 2, 0], [18, 1, 2]], &[1, 1, 3]);
+    let (beside, inner) = ([0, 0], [1, 0, 0, 0]);
+    let found = |first, place| Ok(Entry { first, second: 0, place });
+    let absent = |place| Err(Refused { why: Why::Absent, place });
+    assert_eq!(find(&shelf, &inner, &[1, 7, 1, 1, 9]), found(9, 4));
+    assert_eq!(find(&shelf, &inner, &[0, 1, 1, 9]), found(9, 3));
+    assert_eq!(find(&shelf, &inner, &[0, 1, 0]), absent(2));
+    assert_eq!(find(&shelf, &inner, &[1, 7, 0, 0xff]), absent(2));
+    assert_eq!(find(&shelf, &beside, &[0, 0xff]), absent(0));
+    assert_eq!(find(&shelf, &inner, &[0, 2]), Err(Refused { why: Why::Option, place: 1 }));
+    assert_eq!(find(&shelf, &[1, 0, 0, 1], &[0, 1, 1, 9]), Err(Refused { why: Why::Path, place: 0 }));
+}
+
+#[test]
+fn an_item_is_found_among_the_first_16384() {
+    // A sequence of units in front of a u8: the item is the entry behind the struct's, the sequence's and theirs.
+    let crowd = table(&[[14, 0, 0], [16, 0, 0], [5, 0, 0], [18, 0, 2]], &[1, 2]);
+    let (fits, too_many) = ([0xfd, 0x7f, 9], [0xfe, 0x7f, 9]);
+    assert_eq!(find(&crowd, &[1], &fits), Ok(Entry { first: 9, second: 0, place: 2 }));
+    assert_eq!(find(&crowd, &[1], &too_many), Err(Refused { why: Why::Room, place: 2 }));
 }

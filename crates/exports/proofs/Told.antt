@@ -21,7 +21,11 @@ use Rattle.wire.specs.declared.TakeAnswer.the-variants.{Done as Taken, Refused 
 use Rattle.wire.specs.Reading.{Run, Outcome, reached, refused}
 use Rattle.wire.specs.Answers.{sideNumber, yesNumber, refusalNumber, numbered, done, checkSays, readSays, writeSays, takeSays, askSays, readAnswer, placeAfter, Form, asks}
 use Rattle.laws.specs.Answered.{Reads, Writes, Asks}
-use Rattle.exports.specs.Calls.{Told, countOf, Counted, Read, Wrote, whichOf, yesOf, Asked, firstOf, secondOf, atOf, Took}
+use Rattle.desk.specs.declared.FindAnswer.{FindAnswer}
+use Rattle.desk.specs.declared.FindAnswer.the-variants.{Found as AtPath, NoItem, Absent, Refused as NotFound}
+use Rattle.desk.specs.Path.{findSays}
+use Rattle.desk.specs.Path as path
+use Rattle.exports.specs.Calls.{Told, countOf, Counted, Read, Wrote, whichOf, yesOf, Asked, firstOf, secondOf, atOf, Took, Found}
 
 -- ---- the check
 
@@ -93,3 +97,22 @@ take-done e g = rw (← e, g) (record { number = refl; place = refl; first = ref
 pub take-refused : {t r : TakeAnswer} {before p n : ℕ} {w : Refusal} → r ≡ t → r ≡ NotTaken w p → n ≡ refusalNumber w → Took t before n before 0 0 0
 unfolding takeSays numbered placeAfter firstOf secondOf atOf
 take-refused e g h = rw (← e, g) (record { number = h; place = refl; first = refl; second = refl; at = refl })
+
+-- ---- one item by its path
+
+module _ {a r : FindAnswer} (e : r ≡ a) where
+  pub find-found : {p x y : ℕ} → r ≡ AtPath x y p → Found a 0 p x y
+  unfolding findSays done path.firstOf path.secondOf
+  find-found g = rw (← e, g) (record { told = record { number = refl; place = refl }; first = refl; second = refl })
+
+  pub find-none : r ≡ NoItem → Found a 13 0 0 0
+  unfolding findSays path.firstOf path.secondOf
+  find-none g = rw (← e, g) (record { told = record { number = refl; place = refl }; first = refl; second = refl })
+
+  pub find-absent : {p : ℕ} → r ≡ Absent p → Found a 14 p 0 0
+  unfolding findSays path.firstOf path.secondOf
+  find-absent g = rw (← e, g) (record { told = record { number = refl; place = refl }; first = refl; second = refl })
+
+  pub find-refused : {w : Refusal} {p n : ℕ} → r ≡ NotFound w p → n ≡ refusalNumber w → Found a n p 0 0
+  unfolding findSays numbered path.firstOf path.secondOf
+  find-refused g h = rw (← e, g) (record { told = record { number = h; place = refl }; first = refl; second = refl })

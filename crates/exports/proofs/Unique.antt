@@ -5,7 +5,7 @@ use mathlib.Core.List.{List}
 use Prim.Native.Nat.{ℕ}
 use native.Mathlib.Omega.{arith}
 use lib.ListN.{length, length-drop}
-use Rattle.exports.specs.Unique.{OneTold, OneRead, OneWrote, OneAsked, OneFedCall, OneTook}
+use Rattle.exports.specs.Unique.{OneTold, OneRead, OneWrote, OneAsked, OneFedCall, OneTook, OneFound}
 
 -- two that equal a third
 alike : {A : Type 0} {a x y : A} → x ≡ a → y ≡ a → x ≡ y
@@ -57,4 +57,12 @@ one-took t before x y h k = λ i. (
   alike (h .first) (k .first) i,
   alike (h .second) (k .second) i,
   alike (h .at) (k .at) i,
+)
+
+pub one-found : OneFound
+one-found a x y h k = λ i. (
+  alike (h .told .number) (k .told .number) i,
+  alike (h .told .place) (k .told .place) i,
+  alike (h .first) (k .first) i,
+  alike (h .second) (k .second) i,
 )

@@ -13,6 +13,9 @@ use Rattle.wire.specs.declared.TakeAnswer.the-variants.{Done as Taken, Refused 
 use Rattle.wire.specs.Reading.{Run}
 use Rattle.wire.specs.Answers.{sideNumber, yesNumber, feedNumber, Numbered, readSays, writeSays, takeSays, askSays, storeWith, readAnswer, placeAfter, Form, writeAnswer, outWith, areaAfter}
 use Rattle.accumulator.specs.Feeding.{Lent}
+use Rattle.desk.specs.declared.FindAnswer.{FindAnswer}
+use Rattle.desk.specs.Path.{findSays}
+use Rattle.desk.specs.Path as path
 
 -- document 01's number is returned, and the place left
 pub record Told (n : Numbered) (r p : ℕ) : Type 0 where
@@ -84,3 +87,8 @@ pub record Took (t : TakeAnswer) (before r p a b q : ℕ) : Type 0 where
   pub first : a ≡ firstOf t
   pub second : b ≡ secondOf t
   pub at : q ≡ atOf t
+
+pub record Found (a : FindAnswer) (r p x y : ℕ) : Type 0 where
+  pub told : Told (findSays a) r p
+  pub first : x ≡ path.firstOf a
+  pub second : y ≡ path.secondOf a

@@ -8,7 +8,8 @@ use Rattle.wire.specs.Reading.{Run}
 use Rattle.wire.specs.Answers.{Numbered, Form}
 use Rattle.laws.specs.Unique.{Unique}
 use Rattle.accumulator.specs.Feeding.{Lent}
-use Rattle.exports.specs.Calls.{Told, Read, Wrote, Asked, Fed, Took}
+use Rattle.desk.specs.declared.FindAnswer.{FindAnswer}
+use Rattle.exports.specs.Calls.{Told, Read, Wrote, Asked, Fed, Took, Found}
 
 abbrev pub OneTold : Type 0
 OneTold = (n : Numbered) → Unique (λ (x : ℕ × ℕ). Told n (x .0) (x .1))
@@ -27,3 +28,6 @@ OneFedCall = (f : Lent) (chunk : List ℕ) → Unique (λ (x : ℕ × ℕ × ℕ
 
 abbrev pub OneTook : Type 0
 OneTook = (t : TakeAnswer) (before : ℕ) → Unique (λ (x : ℕ × ℕ × ℕ × ℕ × ℕ). Took t before (x .0) (x .1) (x .2) (x .3) (x .4))
+
+abbrev pub OneFound : Type 0
+OneFound = (a : FindAnswer) → Unique (λ (x : ℕ × ℕ × ℕ × ℕ). Found a (x .0) (x .1) (x .2) (x .3))

@@ -1,4 +1,5 @@
 // The static library for C and Rust: each public call over plain numbers and slices, as include/reystavem.h declares it.
+use desk::FindAnswer;
 use wire::AskAnswer;
 use wire::Checked;
 use wire::ReadAnswer;
@@ -8,7 +9,8 @@ ghost use lib.ListN.{length};
 ghost use Rattle.wire.specs.Table.{check};
 ghost use Rattle.wire.specs.Answers.{checkSays, reads, readsStrict, takes, writes, asks};
 ghost use Rattle.accumulator.specs.Feeding.{feedLent};
-ghost use Rattle.exports.specs.Calls.{Told, Counted, Read, Wrote, Asked, Fed, Took};
+ghost use Rattle.desk.specs.Path.{finds};
+ghost use Rattle.exports.specs.Calls.{Told, Counted, Read, Wrote, Asked, Fed, Took, Found};
 
 #[no_mangle]
 pub extern "C" fn reystavem_check(table: &[u8], place: &mut u64) -> u64
@@ -189,6 +191,46 @@ pub extern "C" fn reystavem_take(
             *first = 0;
             *second = 0;
             *at = 0;
+            numbers::refusal(why)
+        }
+    }
+}
+
+#[no_mangle]
+pub extern "C" fn reystavem_find(
+    table: &[u8],
+    path: &[u64],
+    message: &[u8],
+    place: &mut u64,
+    first: &mut u64,
+    second: &mut u64,
+) -> u64
+    ensures { λ r. ⌜ Found (finds (now (table .entry)) (now (path .entry)) (now (message .entry))) r (now (place .exit)) (now (first .exit)) (now (second .exit)) ⌝ }
+{
+    let got = find::find(table, path, message);
+    *first = 0;
+    *second = 0;
+    match got {
+        FindAnswer::Found {
+            first: x,
+            second: y,
+            place: at,
+        } => {
+            *place = at as u64;
+            *first = x;
+            *second = y;
+            0
+        }
+        FindAnswer::NoItem => {
+            *place = 0;
+            numbers::NO_ITEM
+        }
+        FindAnswer::Absent { place: at } => {
+            *place = at as u64;
+            numbers::ABSENT
+        }
+        FindAnswer::Refused { why, place: at } => {
+            *place = at as u64;
             numbers::refusal(why)
         }
     }

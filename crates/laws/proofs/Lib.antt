@@ -13,6 +13,8 @@ pub mod Bounds
 pub mod Runs
 pub mod Beside
 pub mod Longer
+pub mod Early
+pub mod Told
 pub mod Numbering
 pub mod Unique
 pub mod Trailers

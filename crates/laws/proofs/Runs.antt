@@ -8,11 +8,12 @@ use native.Mathlib.Omega.{arith}
 use lib.ListN.{length}
 use Rattle.wire.specs.declared.Refusal.{Refusal}
 use Rattle.wire.specs.declared.Refusal.the-variants.{Room}
+use Rattle.wire.specs.declared.Own.{Own}
 use Rattle.wire.specs.declared.Item.{Item}
 use Rattle.wire.specs.declared.Item.the-variants.{Took, Refused}
 use Rattle.wire.specs.Shape.{Kind}
 use Rattle.wire.specs.Values.{Entry}
-use Rattle.wire.specs.Reading.{Head, Spot, Run, Outcome, reached, refused, runAfter, readNothing, readOn, readThen, enter, readItem, within, fit}
+use Rattle.wire.specs.Reading.{Head, Spot, Run, Outcome, reached, refused, runAfter, readNothing, readOn, readThen, past, entryOf, enter, readItem, within, fit}
 
 -- ---- without a bound
 
@@ -23,6 +24,23 @@ on-behind es r g = go (r .made) (r .ends)
     go fs (reached x) = unfold readOn runAfter in rw (append-assoc es fs (g x .made))
     go fs (refused e p) = unfold readOn runAfter in refl
 
+pub then-then : (f g h : Spot → Run) (x : Spot) → readThen (readThen f g) h x ≡ readThen f (readThen g h) x
+unfolding readThen
+then-then f g h x = go (f x .made) (f x .ends)
+  where
+    go : (es : List Entry) (o : Outcome) → readOn (readOn es o g .made) (readOn es o g .ends) h ≡ readOn es o (λ y. readOn (g y .made) (g y .ends) h)
+    go es (reached y) = unfold readOn in (unfold runAfter in on-behind es (g y) h)
+    go es (refused e p) = unfold readOn in refl
+
+pub item-then : (hd : Head) (k : Kind) (n : ℕ) (next : ℕ → Spot → Run) (g : Spot → Run) (x : Spot)
+    → readThen (readItem hd k n next) g x ≡ readItem hd k n (λ a. readThen (next a) g) x
+unfolding readThen readItem
+item-then hd k n next g x = go (hd k n (x .place) (x .bytes))
+  where
+    go : (i : Item) → readOn (enter i next x .made) (enter i next x .ends) g ≡ enter i (λ a y. readOn (next a y .made) (next a y .ends) g) x
+    go (Refused e) = unfold enter readOn in refl
+    go (Took own) = unfold enter in (unfold runAfter in on-behind (entryOf own x ∷ []) (next (own .first) (past (own .used) x)) g)
+
 -- nothing behind a run is the run
 pub on-nothing : (es : List Entry) (o : Outcome) → readOn es o readNothing ≡ record { made = es; ends = o }
 unfolding readOn runAfter readNothing
@@ -32,6 +50,65 @@ on-nothing es (refused e p) = refl
 pub then-nothing : (f : Spot → Run) (x : Spot) → readThen f readNothing x ≡ f x
 unfolding readThen
 then-nothing f x = on-nothing (f x .made) (f x .ends)
+
+-- ---- what a run that reached its end did
+
+pub not-reached : {A : Type 0} {e : Refusal} {p : ℕ} {y : Spot} → refused e p ≡ reached y → A
+not-reached q = let z : _≡_ {A = ℕ} 0 1 = cc in absurd (omega arith)
+
+pub same-spot : {x y : Spot} → reached x ≡ reached y → x ≡ y
+same-spot q = cc
+
+-- both steps reached theirs
+pub record ThenRead (f g : Spot → Run) (x : Spot) (es : List Entry) (y : Spot) : Type 0 where
+  pub between : Spot
+  pub these : List Entry
+  pub those : List Entry
+  pub first : f x ≡ record { made = these; ends = reached between }
+  pub second : g between ≡ record { made = those; ends = reached y }
+  pub all : es ≡ these ++ those
+
+pub then-read : (f g : Spot → Run) (x : Spot) (es : List Entry) (y : Spot) → readThen f g x ≡ record { made = es; ends = reached y } → ThenRead f g x es y
+unfolding readThen
+then-read f g x es y = go (f x .made) (f x .ends) refl
+  where
+    go : (fs : List Entry) (o : Outcome) → f x ≡ record { made = fs; ends = o } → readOn fs o g ≡ record { made = es; ends = reached y } → ThenRead f g x es y
+    go fs (reached z) a e =
+        unfold readOn runAfter in
+        record {
+          between = z;
+          these = fs;
+          those = g z .made;
+          first = a;
+          second = ap (λ o. record { made = g z .made; ends = o }) (ap (λ r. r .ends) e);
+          all = sym (ap (λ r. r .made) e);
+        }
+    go fs (refused r p) a e = unfold readOn in not-reached (ap (λ r. r .ends) e)
+
+-- an item was taken, and what follows it reached its end
+pub record ItemRead (h : Head) (k : Kind) (n : ℕ) (next : ℕ → Spot → Run) (x : Spot) (es : List Entry) (y : Spot) : Type 0 where
+  pub own : Own
+  pub those : List Entry
+  pub took : h k n (x .place) (x .bytes) ≡ Took own
+  pub inside : next (own .first) (past (own .used) x) ≡ record { made = those; ends = reached y }
+  pub all : es ≡ entryOf own x ∷ those
+
+pub item-read : (h : Head) (k : Kind) (n : ℕ) (next : ℕ → Spot → Run) (x : Spot) (es : List Entry) (y : Spot)
+    → readItem h k n next x ≡ record { made = es; ends = reached y } → ItemRead h k n next x es y
+unfolding readItem
+item-read h k n next x es y = go (h k n (x .place) (x .bytes)) refl
+  where
+    go : (i : Item) → h k n (x .place) (x .bytes) ≡ i → enter i next x ≡ record { made = es; ends = reached y } → ItemRead h k n next x es y
+    go (Refused r) a e = unfold enter in not-reached (ap (λ r. r .ends) e)
+    go (Took own) a e =
+        unfold enter runAfter in
+        record {
+          own = own;
+          those = next (own .first) (past (own .used) x) .made;
+          took = a;
+          inside = ap (λ o. record { made = next (own .first) (past (own .used) x) .made; ends = o }) (ap (λ r. r .ends) e);
+          all = sym (ap (λ r. r .made) e);
+        }
 
 -- ---- with room
 

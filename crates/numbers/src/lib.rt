@@ -28,6 +28,11 @@ pub fn refusal(why: Refusal) -> u64
 // The append question's work area is too short.
 pub const SHORT_AREA: u64 = 25;
 
+// A path leads to no item that can be found; an option on it is absent.
+pub const NO_ITEM: u64 = 13;
+
+pub const ABSENT: u64 = 14;
+
 // 0 for the old table, 1 for the new one.
 pub fn side(side: Side) -> u64
     ensures { λ r. ⌜ r ≡ sideNumber side ⌝ }

@@ -21,3 +21,4 @@ pub mod Strict
 pub mod StrictOnly
 pub mod RunsAgain
 pub mod ByteForByte
+pub mod Finding

@@ -18,14 +18,14 @@ use Rattle.wire.specs.Values.{Entry, Told, kept, lacks, short, tell, Value, Val
 use Rattle.wire.specs.Reading.{Spot, Outcome, reached, refused, Run}
 use Rattle.wire.specs.Append.{appends}
 use Rattle.wire.specs.Answers.{roomOf, readBy, reads, areaBytes, askBy, asks}
+use Rattle.laws.specs.Told.{over}
 use Rattle.laws.proofs.Splits.{by-lt}
 use Rattle.laws.proofs.Areas.{length-zeroed, zeroed-at, zeroed-behind, area-short, area-long, asks-short, asks-long}
+use Rattle.laws.proofs.Told.{tells-all}
 use Rattle.promises.specs.OldNew.{AppendsTo, YesExactly, ShortAreas, HandedBack, OldMakes, same, unknown, OldReads, OldTableReads}
 use Rattle.promises.specs.Shapes.{seen, OldValues, all-kept, cut}
-use Rattle.promises.specs.Telling.{over}
 use Rattle.promises.proofs.ShapeValues.{shape-old-reads-within, shape-never-another}
 use Rattle.promises.proofs.ShapeYes.{shape-yes-exactly}
-use Rattle.promises.proofs.Told.{tells-all}
 
 -- ---- yes
 

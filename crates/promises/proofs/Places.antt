@@ -22,9 +22,10 @@ use Rattle.wire.specs.Reading.{Run}
 use Rattle.wire.specs.Writing.{Left, Wrote, wrote, misfit, wroteAfter, headBytes, writeNothing, writeOn, writeThen, spell, writeEntry, writeItem, writing, write}
 use Rattle.wire.specs.Answers.{wordsPer, words, wordsOf, entriesOf, storeWith, formOf, formed, noForm, writeBy, writes}
 use Rattle.laws.specs.Steps.{Every}
+use Rattle.laws.specs.Told.{entries}
 use Rattle.laws.proofs.Walks.{every}
 use Rattle.laws.proofs.Places.{length-words, front-words}
-use Rattle.promises.specs.OldNew.{entries, OldMakes, same, unknown}
+use Rattle.promises.specs.OldNew.{OldMakes, same, unknown}
 use Rattle.promises.specs.Places.{firstTwo, SameWords, WriterIgnoresPlaces, ValuesIgnorePlaces, places, SameFront, SamePlaces}
 use Rattle.promises.proofs.OldNew.{old-table-reads}
 

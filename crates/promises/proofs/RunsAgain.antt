@@ -19,13 +19,14 @@ use Rattle.wire.specs.Reading.{Spot, Run, Outcome, reached, refused, runAfter, 
 use Rattle.wire.specs.Writing.{Left, Wrote, wrote, wroteAfter, writeNothing, writeOn, writeThen, spell, writeEntry, writeItem, writing, write}
 use Rattle.laws.specs.Range.{AreBytes}
 use Rattle.laws.specs.Steps.{Every}
+use Rattle.laws.specs.Told.{Tells}
 use Rattle.laws.proofs.Splits.{both-yes, both-left, both-right}
 use Rattle.laws.proofs.Walks.{every}
 use Rattle.laws.proofs.Known.{head-known}
 use Rattle.laws.proofs.Bytes.{below-drop}
 use Rattle.laws.proofs.HeadsAgain.{ItemAgain, AgainItem, head-again}
+use Rattle.laws.proofs.Told.{nothing-tells, then-tells, item-tells}
 use Rattle.promises.specs.Strict.{isShortest, allShortest}
-use Rattle.promises.proofs.Trips.{Tells, nothing-tells, then-tells, item-tells}
 use Rattle.promises.proofs.Flags.{flag-says}
 
 -- the entries `made` were read of n bytes at the front of s, which stand at the place p, and are written to the bytes `out`

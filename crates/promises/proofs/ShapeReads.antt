@@ -21,13 +21,14 @@ use Rattle.wire.specs.Numbers.{varint}
 use Rattle.wire.specs.Reading.{known, head, strictly, judged, headBy, Spot, front, Outcome, reached, refused, Run, runAfter, readNothing, readOn, readThen, past, entryOf, enter, readItem, reading}
 use Rattle.laws.specs.Steps.{row, Law, Appending}
 use Rattle.laws.specs.Bounds.{start, Stays, reaches}
+use Rattle.laws.specs.Told.{entries}
 use Rattle.laws.proofs.Walks.{walk-law, appends-law, matches-refl}
 use Rattle.laws.proofs.Bounds.{head-by-sound, read-stays, row-stays}
 use Rattle.laws.proofs.Runs.{then-nothing}
-use Rattle.promises.specs.OldNew.{entries}
+use Rattle.laws.proofs.Told.{entries-append}
 use Rattle.promises.specs.Shapes.{readWith, seen, ShapeOldReads, MatchingWhole}
 use Rattle.promises.specs.Telling.{OwnTold}
-use Rattle.promises.proofs.Told.{entries-append, told-nothing}
+use Rattle.promises.proofs.Told.{told-nothing}
 
 -- ---- the relation
 

@@ -11,11 +11,11 @@ use lib.ListN.{length, length-append}
 use Rattle.wire.specs.Shape.{Shape}
 use Rattle.wire.specs.Values.{Entry, Tag, Told, kept, lacks, short, tell, Value, valueOf, valued, values}
 use Rattle.wire.specs.Reading.{Spot, front, reached, Run, fit}
+use Rattle.laws.specs.Told.{entries, over}
 use Rattle.laws.proofs.Runs.{within-reached, within-refused, fit-reached}
-use Rattle.promises.specs.OldNew.{entries}
+use Rattle.laws.proofs.Told.{tells-all}
 use Rattle.promises.specs.Shapes.{readWith, seen, ShapeOldReadsWithin, OldValues, all-kept, cut, ShapeNeverAnother}
-use Rattle.promises.specs.Telling.{over}
-use Rattle.promises.proofs.Told.{tells-all, kept-again, lacks-again}
+use Rattle.promises.proofs.Told.{kept-again, lacks-again}
 use Rattle.promises.proofs.ShapeReads.{own-told, shape-old-reads}
 use Rattle.promises.proofs.Begin.{tags, tags-begin}
 

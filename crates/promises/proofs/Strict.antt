@@ -23,15 +23,14 @@ use Rattle.wire.specs.Table.{check, shapeOf}
 use Rattle.wire.specs.Reading.{head, strictly, judged, headBy, Spot, front, Outcome, reached, refused, Run, runAfter, readNothing, readOn, readThen, past, entryOf, enter, readItem, reading, read, readStrict, within, fit}
 use Rattle.wire.specs.Answers.{roomOf, readBy, reads, readsStrict}
 use Rattle.laws.specs.Steps.{Every}
+use Rattle.laws.specs.Told.{entries, Tells}
 use Rattle.laws.proofs.Splits.{not-both}
 use Rattle.laws.proofs.Walks.{every}
 use Rattle.laws.proofs.Known.{head-known}
 use Rattle.laws.proofs.Runs.{on-behind, fit-then, fit-item, fit-none}
 use Rattle.laws.proofs.ReadBy.{reads-plain}
-use Rattle.promises.specs.OldNew.{entries}
+use Rattle.laws.proofs.Told.{entries-append, nothing-tells, then-tells, item-tells}
 use Rattle.promises.specs.Strict.{tagsOf, itemsBy, items, isShortestIn, allShortest, unlessLonger, upToLonger, StrictBeside, StrictDone, StrictOther, StrictExactly, StrictOldTableReads}
-use Rattle.promises.proofs.Told.{entries-append}
-use Rattle.promises.proofs.Trips.{Tells, nothing-tells, then-tells, item-tells}
 use Rattle.promises.proofs.OldNew.{old-reads-by}
 use Rattle.promises.proofs.Flags.{flag-says}
 

@@ -1,21 +1,18 @@
--- Telling entries apart by one shape: it leaves none out, and what it told it tells again.
+-- Telling entries apart by one shape: what it told it tells again.
 -- Assumes nothing.
 use mathlib.Core.Path.{_≡_, refl, ap, _∙_}
 use mathlib.Core.Bool.{Bool, true, false}
-use mathlib.Core.List.{List, [], _∷_, _++_, map-append, append-nil, append-assoc}
+use mathlib.Core.List.{List, [], _∷_, _++_, append-nil, append-assoc}
 use Prim.Native.Nat.{ℕ}
 use Rattle.wire.specs.Tests.{given}
 use Rattle.wire.specs.Shape.{Kind}
 use Rattle.wire.specs.Walk.{following, isKnown}
 use Rattle.wire.specs.Values.{Entry, Tag, Told, kept, lacks, short, toldAfter, tellNothing, tellOn, tellThen, tellItem, telling, tell}
 use Rattle.laws.specs.Steps.{Every}
+use Rattle.laws.specs.Told.{entries}
 use Rattle.laws.proofs.Walks.{every}
-use Rattle.promises.specs.OldNew.{entries}
-use Rattle.promises.specs.Telling.{over, TellsAll, KeptAgain, LacksAgain}
-
-pub entries-append : (ts us : List Tag) → entries (ts ++ us) ≡ entries ts ++ entries us
-unfolding entries
-entries-append ts us = map-append _ ts us
+use Rattle.laws.proofs.Told.{entries-append}
+use Rattle.promises.specs.Telling.{KeptAgain, LacksAgain}
 
 -- nothing behind a step is the step
 pub told-nothing : (t : Told) → tellOn t tellNothing ≡ t
@@ -23,50 +20,6 @@ unfolding tellOn tellNothing toldAfter
 told-nothing (kept ts rest) = rw (append-nil ts)
 told-nothing (lacks ts e rest) = refl
 told-nothing (short ts) = refl
-
--- ---- what is told is all there is
-
-record Splits (f : List Entry → Told) : Type 0 where
-  whole : (es : List Entry) → over (f es) ≡ es
-
-over-ahead : (ts : List Tag) (t : Told) → over (toldAfter ts t) ≡ entries ts ++ over t
-unfolding over toldAfter
-over-ahead ts (kept us rest) = rw (entries-append ts us) (append-assoc (entries ts) (entries us) rest)
-over-ahead ts (lacks us e rest) = rw (entries-append ts us) (append-assoc (entries ts) (entries us) (e ∷ rest))
-over-ahead ts (short us) = entries-append ts us
-
-splits-nothing : Splits tellNothing
-unfolding tellNothing over entries
-splits-nothing = record { whole = λ es. refl }
-
-splits-then : {f g : List Entry → Told} → Splits f → Splits g → Splits (tellThen f g)
-unfolding tellThen tellOn over
-splits-then {f} {g} h k = record { whole = λ es. go (f es) ∙ h .whole es }
-  where
-    go : (t : Told) → over (tellOn t g) ≡ over t
-    go (kept ts rest) = over-ahead ts (g rest) ∙ ap (λ l. entries ts ++ l) (k .whole rest)
-    go (lacks ts e rest) = refl
-    go (short ts) = refl
-
-splits-item : {f : ℕ → List Entry → Told} (k : Kind) (n : ℕ) → ((a : ℕ) → Splits (f a)) → Splits (tellItem k n f)
-unfolding tellItem over given entries
-splits-item {f} k n h = record { whole = go }
-  where
-    entry : (e : Entry) (es : List Entry) (x : Bool)
-        → over (given x (λ _. toldAfter (record { kind = k; entry = e } ∷ []) (f (e .first) es)) (lacks [] e es)) ≡ e ∷ es
-    entry e es true = over-ahead (record { kind = k; entry = e } ∷ []) (f (e .first) es) ∙ ap {B = List Entry} (λ l. e ∷ l) (h (e .first) .whole es)
-    entry e es false = refl
-
-    go : (es : List Entry) → over (tellItem k n f es) ≡ es
-    go [] = refl
-    go (e ∷ es) = entry e es (isKnown (following k (e .first)) n)
-
-splits : Every (λ (i : Unit {0}). telling) (λ f. Splits (f tt))
-splits = record { none = splits-nothing; both = splits-then; made = λ f k n. splits-item k n }
-
-pub tells-all : TellsAll
-unfolding tell
-tells-all t = every splits t .whole
 
 -- ---- told again
 

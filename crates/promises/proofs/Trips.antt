@@ -9,14 +9,15 @@ use Prim.Native.Nat.{ℕ, suc, _+_, _<_, _^_}
 use native.Mathlib.Nat.{add-assoc, add-zero}
 use lib.ListN.{length, drop, length-append}
 use lib.Seq.{drop-append-seam}
-use Rattle.wire.specs.Tests.{given}
 use Rattle.wire.specs.Shape.{Kind, Shape}
 use Rattle.wire.specs.Walk.{Follow, following, isKnown, Walk, walk}
-use Rattle.wire.specs.Values.{Entry, Tag, Told, kept, toldAfter, tellNothing, tellOn, tellThen, tellItem, telling, tell, Value, valueOf}
+use Rattle.wire.specs.Values.{Entry, Tag, Told, tellNothing, tellThen, tellItem, telling, tell, Value, valueOf}
 use Rattle.wire.specs.Reading.{Spot, Run, reached, runAfter, past, readNothing, readOn, readThen, enter, readItem, head, reading, read}
 use Rattle.wire.specs.Writing.{Left, Wrote, wrote, misfit, wroteAfter, headBytes, writeNothing, writeOn, writeThen, spell, writeEntry, writeItem, writing, write}
 use Rattle.laws.specs.Steps.{Every}
+use Rattle.laws.specs.Told.{Tells}
 use Rattle.laws.proofs.Walks.{every}
+use Rattle.laws.proofs.Told.{nothing-tells, then-tells, item-tells}
 use Rattle.laws.proofs.Parts as parts
 use Rattle.laws.proofs.Heads.{tag, ItemBack, written-known, head-back}
 use Rattle.promises.specs.Places.{places, Stand, stop, stands}
@@ -36,23 +37,6 @@ entries-left (e ∷ es) fs h = (h .0, h .1, entries-left es fs (h .2))
 entries-right : (es fs : List Entry) → AreEntries (es ++ fs) → AreEntries fs
 entries-right [] fs h = h
 entries-right (e ∷ es) fs h = entries-right es fs (h .2)
-
--- a step tells the entries es apart as ts, and whatever stands behind them is left
-pub record Tells (u : List Entry → Told) (es : List Entry) (ts : List Tag) : Type 0 where
-  pub told : (rest : List Entry) → u (es ++ rest) ≡ kept ts rest
-
-pub nothing-tells : Tells tellNothing [] []
-unfolding tellNothing
-nothing-tells = record { told = λ rest. refl }
-
-pub then-tells : {u v : List Entry → Told} {es fs : List Entry} {ts us : List Tag} → Tells u es ts → Tells v fs us → Tells (tellThen u v) (es ++ fs) (ts ++ us)
-unfolding tellThen tellOn toldAfter
-then-tells {es} {fs} {ts} {us} a b = record { told = λ rest. rw (append-assoc es fs rest, a .told (fs ++ rest), b .told rest) }
-
-pub item-tells : (k : Kind) (n : ℕ) (next : ℕ → List Entry → Told) (e : Entry) {es : List Entry} {ts : List Tag} → isKnown (following k (e .first)) n ≡ true
-    → Tells (next (e .first)) es ts → Tells (tellItem k n next) (e ∷ es) (record { kind = k; entry = e } ∷ ts)
-unfolding tellItem toldAfter given
-item-tells k n next e h a = record { told = λ rest. rw (h, a .told rest) }
 
 -- items that stand behind others
 stand-then : {pool : List ℕ} {p : ℕ} {ts us : List Tag} {ps qs s t : List ℕ} → Stand pool p ts ps s → Stand pool (p + length s) us qs t

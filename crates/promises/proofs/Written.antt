@@ -20,9 +20,10 @@ use Rattle.wire.specs.Reading.{read}
 use Rattle.wire.specs.Writing.{Wrote, wrote, misfit, write}
 use Rattle.wire.specs.Answers.{wordsPer, entriesOf, Form, form, noForm, formOf, formed, writeBy, writes}
 use Rattle.laws.specs.Range.{AreWords}
+use Rattle.laws.specs.Told.{Tells}
 use Rattle.laws.proofs.Splits.{of-pick, of-given}
 use Rattle.promises.proofs.Spelling.{spelt, spelling}
-use Rattle.promises.proofs.Trips.{AreEntries, Tells, Again, Back, GoodBack, trip}
+use Rattle.promises.proofs.Trips.{AreEntries, Again, Back, GoodBack, trip}
 
 -- ---- from the answer to the walk
 

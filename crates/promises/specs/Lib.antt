@@ -1,4 +1,4 @@
--- What the demands promise of the public answers: of tables of both forms, of a new table beside an old one, of the entries' places, of what is written and read back and when it comes back byte for byte, of the rest, of a skim, and of a strict reading.
+-- What the demands promise of the public answers: of tables of both forms, of a new table beside an old one, of the entries' places, of what is written and read back and when it comes back byte for byte, of the rest, of a skim, of a strict reading, and of one item by its path.
 pub mod Tables
 pub mod OldNew
 pub mod Places
@@ -7,6 +7,7 @@ pub mod Rest
 pub mod Skim
 pub mod Strict
 pub mod ByteForByte
+pub mod Finding
 -- Laws that these are proved by, which are no promises.
 pub mod Shapes
 pub mod Telling

@@ -2,7 +2,7 @@
 -- Assumes nothing.
 use mathlib.Core.Path.{_≡_}
 use mathlib.Core.Bool.{true}
-use mathlib.Core.List.{List, _∷_, _++_, map}
+use mathlib.Core.List.{List, _∷_, _++_}
 use mathlib.Core.Logic.{_↔_}
 use Prim.Native.Nat.{ℕ, _<_, _≤_}
 use lib.ListN.{length, getD, drop}
@@ -17,6 +17,7 @@ use Rattle.wire.specs.Reading.{Spot, reached, refused, Run}
 use Rattle.wire.specs.Append.{Appends}
 use Rattle.wire.specs.Answers.{reads, areaBytes, asks, areaAfter}
 use Rattle.laws.specs.Bounds.{start}
+use Rattle.laws.specs.Told.{entries}
 
 -- Both tables are good, and the new one appends to the old one.
 pub record AppendsTo (old new : List ℕ) : Type 0 where
@@ -43,10 +44,6 @@ pub record Handed (area left : List ℕ) : Type 0 where
 -- Any other area is handed back so.
 abbrev pub HandedBack : Type 0
 HandedBack = (area : List ℕ) → areaBytes ≤ length area → Handed area (areaAfter area)
-
--- The entries that were told apart as a value's.
-unfoldable pub entries : List Tag → List Entry
-entries ts = map (λ t. t .entry) ts
 
 -- What an old table with the shape t makes of a message of which the new table made the entries es, with the values vs, up to the place end.
 pub data OldMakes (t : Shape) (message : List ℕ) (end : ℕ) (es : List Entry) (vs : List Value) : Run → Type 0 where

@@ -14,7 +14,7 @@ use Rattle.wire.specs.Values.{Entry, Tag, Told, kept, lacks, short, tell, Value
 use Rattle.wire.specs.Reading.{headBy, Spot, front, Outcome, reached, refused, Run, reading, fit}
 use Rattle.wire.specs.Append.{Matches, Appends, appends}
 use Rattle.laws.specs.Bounds.{start}
-use Rattle.promises.specs.OldNew.{entries}
+use Rattle.laws.specs.Told.{entries}
 
 -- The test says yes exactly if the new shape appends to the old one.
 abbrev pub ShapeYesExactly : Type 0

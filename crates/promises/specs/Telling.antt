@@ -2,22 +2,12 @@
 -- Assumes nothing.
 use mathlib.Core.Path.{_≡_}
 use mathlib.Core.Bool.{Bool}
-use mathlib.Core.List.{List, [], _∷_, _++_}
+use mathlib.Core.List.{List, [], _++_}
 use Rattle.wire.specs.Shape.{Shape}
 use Rattle.wire.specs.Walk.{walk}
-use Rattle.wire.specs.Values.{Entry, Tag, Told, kept, lacks, short, tell}
+use Rattle.wire.specs.Values.{Entry, Tag, kept, lacks, short, tell}
 use Rattle.wire.specs.Reading.{headBy, Spot, reached, reading}
-use Rattle.promises.specs.OldNew.{entries}
-
--- the entries that were told apart
-unfoldable pub over : Told → List Entry
-over (kept ts rest) = entries ts ++ rest
-over (lacks ts e rest) = entries ts ++ e ∷ rest
-over (short ts) = entries ts
-
--- Telling entries apart leaves none out, adds none and keeps their order.
-abbrev pub TellsAll : Type 0
-TellsAll = (t : Shape) (es : List Entry) → over (tell t es) ≡ es
+use Rattle.laws.specs.Told.{entries}
 
 -- What a shape's reading made it tells as its own, whatever follows.
 abbrev pub OwnTold : Type 0

@@ -1,4 +1,4 @@
--- The contracts of the public calls, from what the cycle gives for the root, whose number stands in the trailer: with a store's own room, and with none.
+-- The contracts of the public calls, from what the cycle gives for the root, whose number stands in the trailer: with a store's own room, and with none; and a row skimmed.
 -- Assumes nothing.
 use mathlib.Core.Path.{_≡_, sym, ap, ap₂, _∙_}
 use mathlib.Core.Bool.{Bool, false}
@@ -14,10 +14,10 @@ use Rattle.wire.specs.declared.Checked.{Checked}
 use Rattle.wire.specs.declared.Checked.the-variants.{Good, Bad}
 use Rattle.wire.specs.declared.ReadAnswer.{ReadAnswer}
 use Rattle.wire.specs.declared.ReadAnswer.the-variants.{Done, Refused}
-use Rattle.wire.specs.Walk.{walk}
+use Rattle.wire.specs.Walk.{times, walk}
 use Rattle.wire.specs.Table.{check, shapeOf}
 use Rattle.wire.specs.Values.{Entry}
-use Rattle.wire.specs.Reading.{Outcome, reached, refused, front, Head, headBy, runAfter, reading, within, fit}
+use Rattle.wire.specs.Reading.{Spot, Outcome, reached, refused, front, Head, head, judged, headBy, runAfter, reading, within, fit}
 use Rattle.wire.specs.Answers.{words, roomOf, storeWith, readBy, skims, restOf}
 use Rattle.laws.specs.Answered.{Reads}
 use Rattle.laws.specs.Tables.{nodeShape}
@@ -27,10 +27,10 @@ use Rattle.laws.proofs.Tables.{good-table}
 use Rattle.laws.proofs.Unique.{by-equation}
 use Rattle.table.proofs.Stretches.{rounds-once, flat-rounds, root-number}
 use Rattle.table.specs.declared.Way.{Way}
-use Rattle.table.specs.Parts.{Flat, nodeStep, roundsStep}
+use Rattle.table.specs.Parts.{Flat, under, nodeStep, rowStep, roundsStep}
 use Rattle.read_item.specs.Lay.{storeFrom, laid, lay}
 use Rattle.read_item.proofs.Laying.{laid-none}
-use Rattle.reader.specs.Steps.{Gives}
+use Rattle.reader.specs.Steps.{Gives, answerBehind}
 use Rattle.reader.specs.Promise.{OneReading, OneRest, OneSkim}
 use Rattle.reader.proofs.Laying.{gives-refused}
 
@@ -93,6 +93,13 @@ module _ (table message : List ℕ) {a : ReadAnswer} where
   pub skims-whole : (room : ℕ) (store : List ℕ) {st : List ℕ} → Gives (laid (readBy false (check table) table room message) 0 store) a st → a ≡ skims table message room
   unfolding skims laid
   skims-whole room store g = g .answered ∙ rw (zero-add (length (readBy false (check table) table room message .made)))
+
+-- a row, which is one round of itself
+pub skims-row : (table : List ℕ) (l : Layout) (from n : ℕ) (x : Spot) (room made : ℕ) (store : List ℕ) {a : ReadAnswer} {st : List ℕ}
+    → Gives (lay room (roundsStep (reading (headBy false)) table l 1 false from n x) made store) a st
+    → a ≡ answerBehind made (fit (room - made) (rowStep (reading head) table l from n x))
+unfolding roundsStep under times headBy judged lay laid answerBehind
+skims-row table l from n x room made store g = g .answered ∙ ap (λ r. answerBehind made (fit (room - made) r)) (then-nothing (rowStep (reading head) table l from n) x)
 
 -- ---- the rest
 

@@ -34,7 +34,7 @@ use Rattle.read_item.specs.Steps.{spot, ownOf, afterOf, Puts, entry, same, Ente
 use Rattle.read_item.proofs.Laying.{lay-nothing, onBy, lay-then}
 use Rattle.read_item.proofs.Entering.{number-small, Goes, item-refused, item-goes, item-alone}
 use Rattle.read_item.proofs.Heads.{head-leaf}
-use Rattle.reader.specs.Steps.{Gives}
+use Rattle.reader.specs.Steps.{Gives, answerBehind}
 use Rattle.reader.proofs.Laying.{gives-refused, gives-done}
 
 -- ---- a call, and then more
@@ -48,6 +48,47 @@ pub record Went (bs : List ℕ) (at q : ℕ) : Type 0 where
   pub up : at ≤ q
   pub inside : q - at ≤ length bs
   pub kept : q + length (from bs at q) ≡ at + length bs
+
+-- f is called, which stays inside its bytes, with room for so many entries: where it arrived
+module _ (f : Spot → Run) (steady : (x : Spot) → Stays x (f x .made) (f x .ends)) (bs : List ℕ) (at room : ℕ) where
+  pub arrived : {q : ℕ} (y : Spot) → y .place ≡ q → fit room (f (spot bs at)) .ends ≡ reached y → Went bs at q × (y ≡ spot (from bs at q) q)
+  unfolding past
+  arrived {q} y p e =
+      let run = fit room (f (spot bs at)) in
+      let free = fit-reached room (f (spot bs at)) (run .made) y (ap (λ o. record { made = run .made; ends = o }) e) .1 in
+      go (rw (ap (λ r. r .ends) free) at (steady (spot bs at)))
+    where
+      go : Stays (spot bs at) (f (spot bs at) .made) (reached y) → Went bs at q × (y ≡ spot (from bs at q) q)
+      go (reaches u l e t) =
+          let here : y .place ≡ at + u = ap (λ z. z .place) e in
+          let back : u ≡ q - at = omega arith in (
+            record { up = omega arith; inside = omega arith; kept = omega (arith, length-tail bs (q - at)) },
+            ap₂ spot (ap (λ z. z .bytes) e ∙ ap (λ k. drop k bs) back ∙ sym (tail bs (q - at))) p,
+          )
+
+  -- the answer of such a call behind the first m entries: a refusal, or where it arrived and the entries made
+  module _ (m : ℕ) {a : ReadAnswer} (said : a ≡ answerBehind m (fit room (f (spot bs at)))) where
+    pub said-refused : {e : Refusal} {p n : ℕ} → a ≡ Refused e p n → fit room (f (spot bs at)) .ends ≡ refused e p
+    unfolding answerBehind readAnswer
+    said-refused {e} {p} {n} h = go (fit room (f (spot bs at)) .ends) (sym said ∙ h)
+      where
+        go : (o : Outcome) → readAnswer o (m + length (fit room (f (spot bs at)) .made)) ≡ Refused e p n → o ≡ refused e p
+        go (reached y) q = let z : _≡_ {A = ℕ} 0 1 = cc in absurd (omega arith)
+        go (refused r i) q = let x : r ≡ e = cc in let y : i ≡ p = cc in rw (x, y)
+
+    pub said-done : {q n : ℕ} → a ≡ Done q n
+        → Went bs at q × (fit room (f (spot bs at)) .ends ≡ reached (spot (from bs at q) q)) × (n ≡ m + length (fit room (f (spot bs at)) .made))
+    unfolding answerBehind readAnswer
+    said-done {q} {n} h = go (fit room (f (spot bs at)) .ends) refl (sym said ∙ h)
+      where
+        go : (o : Outcome) → fit room (f (spot bs at)) .ends ≡ o → readAnswer o (m + length (fit room (f (spot bs at)) .made)) ≡ Done q n
+            → Went bs at q × (o ≡ reached (spot (from bs at q) q)) × (n ≡ m + length (fit room (f (spot bs at)) .made))
+        go (refused r i) e j = let z : _≡_ {A = ℕ} 0 1 = cc in absurd (omega arith)
+        go (reached y) e j =
+            let p : y .place ≡ q = cc in
+            let c : m + length (fit room (f (spot bs at)) .made) ≡ n = cc in
+            let there = arrived y p e in
+            (there .0, ap reached (there .1), sym c)
 
 -- f is called, which stays inside its bytes, and g is left
 module _ (room : ℕ) (f g : Spot → Run) (steady : (x : Spot) → Stays x (f x .made) (f x .ends)) (w : Left) (bs : List ℕ) (at sofar : ℕ) (store : List ℕ)
@@ -67,25 +108,16 @@ module _ (room : ℕ) (f g : Spot → Run) (steady : (x : Spot) → Stays x (f x
       go (refused r i) q s = rw s called
 
   pub turned : {q n : ℕ} → a ≡ Done q n → Went bs at q × (w ≡ lay room (g (spot (from bs at q) q)) n st)
-  unfolding readAnswer lay laid past
+  unfolding readAnswer lay laid
   turned {q} {n} h = go (v .ends) refl (sym (called .answered) ∙ h) step
     where
-      arrived : (y : Spot) → y .place ≡ q → v .count ≡ n → Stays (spot bs at) (f (spot bs at) .made) (reached y) → w ≡ lay room (g y) (v .count) (v .store)
-          → Went bs at q × (w ≡ lay room (g (spot (from bs at q) q)) n st)
-      arrived y p c (reaches u l e t) s =
-          let here : y .place ≡ at + u = ap (λ z. z .place) e in
-          let back : u ≡ q - at = omega arith in
-          let there : y ≡ spot (from bs at q) q = ap₂ spot (ap (λ z. z .bytes) e ∙ ap (λ k. drop k bs) back ∙ sym (tail bs (q - at))) p in
-          (record { up = omega arith; inside = omega arith; kept = omega (arith, length-tail bs (q - at)) }, s ∙ rw (there, c, ← (called .stored)))
-
       go : (o : Outcome) → v .ends ≡ o → readAnswer o (v .count) ≡ Done q n → w ≡ onBy room o v g → Went bs at q × (w ≡ lay room (g (spot (from bs at q) q)) n st)
       go (refused r i) e j s = let z : _≡_ {A = ℕ} 0 1 = cc in absurd (omega arith)
       go (reached y) e j s =
-          let run = fit (room - sofar) (f (spot bs at)) in
-          let free = fit-reached (room - sofar) (f (spot bs at)) (run .made) y (ap (λ o. record { made = run .made; ends = o }) e) .1 in
           let p : y .place ≡ q = cc in
           let c : v .count ≡ n = cc in
-          arrived y p c (rw (ap (λ r. r .ends) free) at (steady (spot bs at))) s
+          let there = arrived f steady bs at (room - sofar) y p e in
+          (there .0, s ∙ rw (there .1, c, ← (called .stored)))
 
 -- ---- one node after the other, and one round after the other
 

@@ -6,17 +6,17 @@ use wire::Layout;
 use wire::ReadAnswer;
 use wire::Refusal;
 ghost use mathlib.Core.Path.{_≡_};
-ghost use Prim.Native.Nat.{_+_, _^_, _<_, _≤_};
+ghost use Prim.Native.Nat.{_+_, _-_, _^_, _<_, _≤_};
 ghost use lib.ListN.{length};
 ghost use Rattle.wire.specs.Table.{check as checkOf};
-ghost use Rattle.wire.specs.Reading.{headBy, reading};
+ghost use Rattle.wire.specs.Reading.{head, headBy, reading, fit};
 ghost use Rattle.wire.specs.Answers.{readBy, reads, readsStrict, skims, restOf};
 ghost use Rattle.laws.specs.Answered.{Reads};
 ghost use Rattle.laws.specs.Tables.{GoodTable};
 ghost use Rattle.table.specs.Parts.{Falls, nodeStep, rowStep, roundsStep};
 ghost use Rattle.read_item.specs.Lay.{laid, lay};
 ghost use Rattle.read_item.specs.Steps.{spot, Inner};
-ghost use Rattle.reader.specs.Steps.{Gives, Begins};
+ghost use Rattle.reader.specs.Steps.{Gives, answerBehind, Begins};
 
 // ---- rounds
 
@@ -376,6 +376,43 @@ pub fn skim(table: &[u8], message: &[u8], room: usize) -> ReadAnswer
 {
     let mut words: [u64; 1] = [0; 1];
     read_with(false, table, message, room, &mut words[0..0])
+}
+
+// The items of a row of children's numbers, skimmed: where the row ends or why it is refused, and the entries made with those
+// before. It is for questions that go through a message by themselves.
+pub fn skim_row(
+    table: &[u8],
+    l: Layout,
+    node: usize,
+    from: usize,
+    width: usize,
+    part: &[u8],
+    place: usize,
+    room: usize,
+    made: usize,
+) -> ReadAnswer
+    requires { ⌜ GoodTable (now table) l ⌝ }
+    requires { ⌜ node ≤ l .nodes ⌝ }
+    requires { ⌜ Falls (now table) from width node ⌝ }
+    requires { ⌜ place + length (now part) < 2 ^ 64 ⌝ }
+    ensures { λ r. ⌜ r ≡ answerBehind made (fit (room - made) (rowStep (reading head) (now (table .entry)) l from width (spot (now (part .entry)) place))) ⌝ }
+{
+    let mut words: [u64; 1] = [0; 1];
+    read_rounds(
+        false,
+        table,
+        l,
+        node,
+        1,
+        false,
+        from,
+        width,
+        part,
+        place,
+        room,
+        &mut words[0..0],
+        made,
+    )
 }
 
 // The unread bytes, from the same message and its answer.

@@ -1,15 +1,18 @@
 // Asks again what a record asked, and compares the whole of the answer with the record's. HOW.md has
 // the order of a record's parts.
+use desk::FindAnswer;
 use recorded::field;
 use recorded::memory;
 use wire::AskAnswer;
 use wire::ReadAnswer;
 use wire::TakeAnswer;
 use wire::WriteAnswer;
+ghost use mathlib.Core.Path.{_≡_};
 ghost use Rattle.wire.specs.Answers.{readSays, writeSays, askSays, takeSays};
+ghost use Rattle.desk.specs.Path.{findSays, firstOf, secondOf};
 ghost use Rattle.replay.specs.Told.{Tells, made, which};
 
-// The room for the words of a store or a value list, for the bytes of an output and of an accumulator.
+// The room for the words of a store, a value list or a path, for the bytes of an output and of an accumulator.
 const WORDS: usize = 256 * entry::WORDS;
 
 const OUT: usize = 1024;
@@ -31,6 +34,7 @@ pub enum Kind {
     Append,
     Feed,
     Take,
+    Find,
 }
 
 // The numbers that an answer of any kind begins with: document 01's number, and two more.
@@ -49,6 +53,7 @@ pub fn fields(kind: Kind) -> usize {
         Kind::Append => 6,
         Kind::Feed => 10,
         Kind::Take => 8,
+        Kind::Find => 7,
     }
 }
 
@@ -344,6 +349,78 @@ fn take_agrees(record: &[u8]) -> bool {
     check::same(tail::from(message, behind), field::part(record, 7))
 }
 
+// ---- finding an item
+
+fn find_told(answer: FindAnswer) -> Told
+    ensures { λ r. ⌜ Tells (findSays answer) (firstOf answer) r ⌝ }
+{
+    match answer {
+        FindAnswer::Found {
+            first,
+            second: _,
+            place,
+        } => Told {
+            number: 0,
+            second: place as u64,
+            third: first,
+        },
+        FindAnswer::NoItem => Told {
+            number: numbers::NO_ITEM,
+            second: 0,
+            third: 0,
+        },
+        FindAnswer::Absent { place } => Told {
+            number: numbers::ABSENT,
+            second: place as u64,
+            third: 0,
+        },
+        FindAnswer::Refused { why, place } => Told {
+            number: numbers::refusal(why),
+            second: place as u64,
+            third: 0,
+        },
+    }
+}
+
+fn second_of(answer: FindAnswer) -> u64
+    ensures { λ r. ⌜ r ≡ secondOf answer ⌝ }
+{
+    match answer {
+        FindAnswer::Found {
+            first: _,
+            second,
+            place: _,
+        } => second,
+        FindAnswer::NoItem => 0,
+        FindAnswer::Absent { place: _ } => 0,
+        FindAnswer::Refused { why: _, place: _ } => 0,
+    }
+}
+
+// Whether the item at the record's path is the record's; the words are room for the path.
+fn find_by(record: &[u8], words: &mut [u64]) -> bool {
+    let path = field::part(record, 4);
+    memory::put_words(words, path);
+    let count = path.len() / 8;
+    if words.len() < count {
+        return false;
+    }
+    let answer = find::find(
+        field::part(record, 3),
+        &words[..count],
+        field::part(record, 5),
+    );
+    if !tells(record, find_told(answer)) {
+        return false;
+    }
+    field::number_at(record, 6) == second_of(answer)
+}
+
+fn find_agrees(record: &[u8]) -> bool {
+    let mut words = [0u64; WORDS];
+    find_by(record, &mut words)
+}
+
 // ---- any record
 
 // Whether the answer to what a record asks is the record's.
@@ -355,5 +432,6 @@ pub fn agrees(kind: Kind, record: &[u8]) -> bool {
         Kind::Append => ask_agrees(record),
         Kind::Feed => feed_agrees(record),
         Kind::Take => take_agrees(record),
+        Kind::Find => find_agrees(record),
     }
 }

@@ -91,4 +91,5 @@ fn main() {
     replay(Kind::Append, b"appending");
     replay(Kind::Feed, b"feeding");
     replay(Kind::Take, b"taking");
+    replay(Kind::Find, b"finding");
 }

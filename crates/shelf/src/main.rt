@@ -1,15 +1,17 @@
-// What a planner runs: shelf table, read, bytes, read-strict, append, frames and write, each over files. Without such words it says how to use it.
+// What a planner runs: shelf table, read, bytes, read-strict, find, append, frames and write, each over files. Without such words it says how to use it.
 mod files;
+mod finding;
 mod frames;
 mod shown;
 mod writing;
 
-// A verb, and how many words the whole command has with it.
+// A command's first word.
 enum Verb {
     Table,
     Read,
     Bytes,
     ReadStrict,
+    Find,
     Append,
     Frames,
     Write,
@@ -22,6 +24,7 @@ fn say_usage() {
         shelf read TABLE MESSAGE            each entry of the message on a line, and the rest\n\
         shelf bytes TABLE MESSAGE           the same, each entry with its place and its bytes\n\
         shelf read-strict TABLE MESSAGE     the same, up to the first item that isn't in its shortest form\n\
+        shelf find TABLE MESSAGE 0 2 1 ...  the one item at a path of positions, 0 to enter an option\n\
         shelf append OLD NEW                does the new table only append to the old one?\n\
         shelf frames FILE                   the messages in a recorded stream of frames\n\
         shelf write TABLE VALUES POOL OUT   writes the message of a value list\n",
@@ -41,6 +44,9 @@ fn verb_of(word: &[u8]) -> Verb {
     if check::same(word, b"read-strict") {
         return Verb::ReadStrict;
     }
+    if check::same(word, b"find") {
+        return Verb::Find;
+    }
     if check::same(word, b"append") {
         return Verb::Append;
     }
@@ -53,17 +59,14 @@ fn verb_of(word: &[u8]) -> Verb {
     Verb::Unknown
 }
 
-// How many words a command with this verb has.
-fn words_of(verb: Verb) -> usize {
+// Whether a command with this verb may have so many words; a path may be of any length.
+fn fits(verb: Verb, count: usize) -> bool {
     match verb {
-        Verb::Table => 3,
-        Verb::Read => 4,
-        Verb::Bytes => 4,
-        Verb::ReadStrict => 4,
-        Verb::Append => 4,
-        Verb::Frames => 3,
-        Verb::Write => 6,
-        Verb::Unknown => 0,
+        Verb::Table | Verb::Frames => count == 3,
+        Verb::Read | Verb::Bytes | Verb::ReadStrict | Verb::Append => count == 4,
+        Verb::Find => 4 <= count,
+        Verb::Write => count == 6,
+        Verb::Unknown => false,
     }
 }
 
@@ -78,7 +81,7 @@ fn run_on_new(old: &[u8]) {
     }
 }
 
-// shelf read, bytes or read-strict TABLE MESSAGE, or shelf write TABLE VALUES POOL OUT, with the table.
+// shelf read, bytes, read-strict or find TABLE MESSAGE, or shelf write TABLE VALUES POOL OUT, with the table.
 fn run_on_file(verb: Verb, table: &[u8]) {
     let mut room = files::large_room();
     let loaded = files::load(3, &mut room);
@@ -89,6 +92,7 @@ fn run_on_file(verb: Verb, table: &[u8]) {
             Verb::Read => shown::read(table, &room[..len], false),
             Verb::Bytes => shown::read(table, &room[..len], true),
             Verb::ReadStrict => shown::read_strictly(table, &room[..len]),
+            Verb::Find => finding::find(table, &room[..len]),
             _ => writing::write_values(table, &room[..len]),
         }
     }
@@ -122,7 +126,7 @@ fn main() {
     let mut word = io::buffer();
     let n = os::arg(1, &mut word);
     let asked = verb_of(&word[..n]);
-    if os::arg_count() != words_of(asked) {
+    if !fits(asked, os::arg_count()) {
         return say_usage();
     }
     run(asked);

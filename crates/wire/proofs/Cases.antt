@@ -16,7 +16,7 @@ use Rattle.wire.specs.Answers.{numbered, done, readSays, writeSays, askS
 use Rattle.wire.specs.Cases.{readSaid, readRun, tookSaid, wroteForm, valuesBy, isYes, askedSaid, fedSaid, answer, case, tableT, tabled, inSecond, marked, leafTable, fourFields, inFront, atEnd, oneVariant, twoVariants, nested, untouched, store, out, enough, array, cases, ours, strict, forms, trailed, AtLimits, BeyondLimits, Hold, Areas}
 
 -- to open this is to compute all definitions
-unfoldable computing : Unit {0}
+unfoldable pub computing : Unit {0}
 unfolding pick given both decided bits size sameKind count depth deepest u16At u32At sizeOf markOf mostNodes mostBytes tableForm endingAt layoutAt goodNumbers goodTrailer kinds isKind kindOf nodeAt recordOf firstChild childCount below goodPlaces goodKind goodNode shapesAt shapeBy shapeF shapeOf chainOf shortChain goodIn checkFrom checkAt checkAs check following isKnown all times nth along walk walks part toldAfter tellNothing tellOn tellThen tellItem tell isPooled valueOf valued values most last low varintF varint shortestF shortest signedWord isSignedWord zigzag unzigzag word isWord zigzagged unzigzagged onFirst little littleBytes inOrder wordOf widthOf lowOf highOf utf8F utf8 leadPart sixes firstChar isChar charBytes flag counted charOf isContent contentOf readPlain known head strictly judged headBy runAfter readNothing readOn readThen past enter readItem read readStrict within fit when single withCount plainBytes headBytes wroteAfter writeNothing writeOn writeThen spell writeEntry writeItem write isOpen matches firsts isOpenRoot appends gapAfter groups decode room toZero noMessage feedOn framed feedEnd feedFit feed padded numbered done readSays writeSays askSays wordsOf words entriesOf roomOf storeWith readBy reads readsStrict readAnswer restOf mayTake taken takes placeAfter formOf formed writeBy writes writeAnswer outWith askBy areaBytes asksWith zeroed areaAfter readSaid readRun tookSaid wroteForm valuesBy isYes askedSaid fedSaid answer case tableT tabled inSecond marked leafTable fourFields inFront atEnd oneVariant twoVariants nested untouched store out enough array cases ours strict forms trailed
 computing = tt
 

@@ -99,8 +99,8 @@ fn fixed(word: u64, used: usize) -> Own {
 }
 
 impl Reader<'_> {
-    /// Reads the item that starts at `at`, gives the place behind it and its children.
-    fn item(&mut self, node: usize, m: &[u8], at: usize) -> Result<usize, Refusal> {
+    /// Reads the item that starts at `at` without its children, gives its entry and the place behind it.
+    fn head(&mut self, node: usize, m: &[u8], at: usize) -> Result<(Entry, usize), Refusal> {
         if self.entries.len() >= self.room {
             return Err(Refusal { no: 10, place: at });
         }
@@ -109,8 +109,14 @@ impl Reader<'_> {
         if self.strict && !shortest {
             return Err(Refusal { no: 16, place: at });
         }
-        self.entries.push([w0, w1, at as u64]);
-        let mut at = at + used;
+        let entry = [w0, w1, at as u64];
+        self.entries.push(entry);
+        Ok((entry, at + used))
+    }
+
+    /// Reads the item that starts at `at`, gives the place behind it and its children.
+    fn item(&mut self, node: usize, m: &[u8], at: usize) -> Result<usize, Refusal> {
+        let ([w0, ..], mut at) = self.head(node, m, at)?;
         let table = self.table;
         let node = &table.nodes[node];
         match node.kind {
@@ -131,6 +137,22 @@ impl Reader<'_> {
             _ => {}
         }
         Ok(at)
+    }
+
+    /// Reads from the item at `at` up to the one that the path leads to from it, and no further.
+    fn find(&mut self, node: usize, path: &[u64], m: &[u8], at: usize) -> Result<Entry, Refusal> {
+        let (entry, mut behind) = self.head(node, m, at)?;
+        let [position, onward @ ..] = path else { return Ok(entry) };
+        let table = self.table;
+        let node = &table.nodes[node];
+        if node.kind == table::OPTION && entry[0] == 0 {
+            return Err(Refusal { no: 14, place: at });
+        }
+        let position = *position as usize;
+        for &kid in &node.kids[..position] {
+            behind = self.item(kid, m, behind)?;
+        }
+        self.find(node.kids[position], onward, m, behind)
     }
 
     /// The item's own bytes, which are the first of `m`.
@@ -241,6 +263,27 @@ fn reading<'m>(file: &[u8], message: &'m [u8], store_words: usize, strict: bool)
         Ok(place) => ReadAnswer { no: 0, place, entries, rest: &message[place..] },
         Err(Refusal { no, place }) => ReadAnswer { no, place, entries, rest: &[] },
     }
+}
+
+/// Whether a path leads from a node to an item that can be asked for.
+fn leads(table: &Table, node: usize, path: &[u64]) -> bool {
+    let node = &table.nodes[node];
+    match (path, node.kind) {
+        ([], kind) => kind < table::UNIT || kind >= table::FIX_FIRST,
+        ([0, onward @ ..], table::OPTION) => leads(table, node.kids[0], onward),
+        ([position, onward @ ..], table::STRUCT) => {
+            *position < node.kids.len() as u64 && leads(table, node.kids[*position as usize], onward)
+        }
+        _ => false,
+    }
+}
+
+pub fn find(file: &[u8], path: &[u64], message: &[u8]) -> Result<Entry, Refusal> {
+    let table = Table::parse(file)?;
+    if !leads(&table, table.root, path) {
+        return Err(Refusal { no: 13, place: 0 });
+    }
+    Reader { table: &table, room: 16_384, strict: false, entries: vec![] }.find(table.root, path, message, 0)
 }
 
 /// The shortest varint.

@@ -2,7 +2,7 @@
 
 use crate::append::{appends, Which};
 use crate::feed::{feed, ROOM};
-use crate::{model, read, strict, write, Entry, ReadAnswer, Refusal};
+use crate::{find, model, read, strict, write, Entry, ReadAnswer, Refusal};
 use core::fmt::Write;
 
 pub fn hex(bytes: &[u8]) -> String {
@@ -62,7 +62,14 @@ fn write_text(a: &Result<Vec<u8>, Refusal>) -> String {
     }
 }
 
-/// Answers one request line. With `from_document` the crate-free model answers R, S and W.
+fn find_text(a: &Result<Entry, Refusal>) -> String {
+    match a {
+        Ok(entry) => format!("0 {:x} | {}", entry[2], entries_text(&[*entry])),
+        Err(Refusal { no, place }) => format!("{no} {place:x} | -"),
+    }
+}
+
+/// Answers one request line. With `from_document` the crate-free model answers R, S, W and I.
 pub fn answer(line: &str, from_document: bool) -> Result<String, String> {
     let f: Vec<&str> = line.split_ascii_whitespace().collect();
     match f[..] {
@@ -106,6 +113,10 @@ pub fn answer(line: &str, from_document: bool) -> Result<String, String> {
                 Ok((entry, next)) => format!("0 {next:x} {next:x} | {} | {}", entries_text(&[entry]), rest(next)),
                 Err(Refusal { no, place: p }) => format!("{no} {p:x} {place:x} | - | {}", rest(place)),
             })
+        }
+        ["I", table, path, message] => {
+            let find = if from_document { model::find } else { find::find };
+            Ok(find_text(&find(&unhex(table)?, &words(path)?, &unhex(message)?)))
         }
         _ => Err("unknown request".into()),
     }

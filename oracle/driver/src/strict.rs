@@ -1,6 +1,6 @@
 //! The strict read (T-06): the crate's plain read, and for each item whether the crate writes the bytes that it read.
 
-use crate::table::{self, Table};
+use crate::table::Table;
 use crate::{read, room, write, Entry, ReadAnswer, Refusal};
 
 /// Reads one value of a good table. Where an item's own bytes aren't the ones that the crate writes for its value alone,
@@ -33,11 +33,7 @@ fn kinds_of<'e>(
     let &[w0, ..] = entries.next()?;
     let node = &table.nodes[node];
     kinds.push(node.kind);
-    let (rounds, kids) = match node.kind {
-        table::OPTION | table::SEQ | table::MAP => (w0, &node.kids[..]),
-        table::ENUM => (1, &node.kids[w0 as usize..][..1]),
-        _ => (1, &node.kids[..]),
-    };
+    let (rounds, kids) = node.behind(w0);
     for _ in 0..rounds {
         for &kid in kids {
             kinds_of(table, kid, entries, kinds)?;

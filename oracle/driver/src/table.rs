@@ -58,6 +58,17 @@ pub struct Node {
     pub kids: Vec<usize>,
 }
 
+impl Node {
+    /// The children whose entries follow one of this node with such a first word, and how often they do.
+    pub fn behind(&self, w0: u64) -> (u64, &[usize]) {
+        match self.kind {
+            OPTION | SEQ | MAP => (w0, &self.kids),
+            ENUM => (1, &self.kids[w0 as usize..][..1]),
+            _ => (1, &self.kids),
+        }
+    }
+}
+
 #[derive(Clone, Debug, PartialEq, Eq)]
 pub struct Table {
     pub nodes: Vec<Node>,

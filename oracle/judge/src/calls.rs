@@ -3,7 +3,7 @@ use crate::area::Area;
 use oracle_driver::append::{appends, Which};
 use oracle_driver::feed::{feed, ROOM};
 use oracle_driver::proto::{number, unhex, words};
-use oracle_driver::{read, strict, table, write, ReadAnswer, Refusal, WORDS};
+use oracle_driver::{find, read, strict, table, write, ReadAnswer, Refusal, WORDS};
 use reystavem::{Accumulator, Fed, Read, ReadRefused, Refused, Side};
 use std::fmt::Debug;
 
@@ -146,6 +146,39 @@ pub fn take(kind: u64, message: &[u8], place: usize) -> Result<(), Differs> {
     same("number, entry and place in C", take_in_c(kind, message, place), (number.into(), entry, behind as u64))
 }
 
+/// By a path; and what the request is counted as.
+pub fn finding(table: &[u8], path: &[u64], message: &[u8]) -> (&'static str, Result<(), Differs>) {
+    let right = find::find(table, path, message).map_err(|Refusal { no, place }| (no, place));
+    let kind = match right {
+        Ok(_) => "finding",
+        Err((13, _)) => "finding no item",
+        Err((14, _)) => "finding absent",
+        Err(_) => "finding refused",
+    };
+    let ours = reystavem::find(table, path, message).map_err(numbered);
+    let ours = ours.map(|entry| [entry.first, entry.second, entry.place as u64]);
+    let in_c = match right {
+        Ok([first, second, place]) => (0, [place, first, second]),
+        Err((number, place)) => (number.into(), [place as u64, 0, 0]),
+    };
+    let outcome = same("answer", ours, right)
+        .and_then(|()| same("number, place, first and second in C", find_in_c(table, path, message), in_c));
+    (kind, outcome)
+}
+
+/// The number, and the three that the header has besides. The bindings hide what a refusal writes.
+fn find_in_c(table: &[u8], path: &[u64], message: &[u8]) -> (u64, [u64; 3]) {
+    let mut told = [u64::MAX; 3];
+    let [place, first, second] = &mut told;
+    let (table_len, path_len, message_len) = (table.len(), path.len(), message.len());
+    let (path, message) = (path.as_ptr(), message.as_ptr());
+    // SAFETY: each slice is lent with its own length; the numbers are ours.
+    let number = unsafe {
+        reystavem_find(table.as_ptr(), table_len, path, path_len, message, message_len, place, first, second)
+    };
+    (number, told)
+}
+
 extern "C" {
     fn reystavem_append(
         old_table: *const u8,
@@ -166,6 +199,17 @@ extern "C" {
         first: *mut u64,
         second: *mut u64,
         at: *mut u64,
+    ) -> u64;
+    fn reystavem_find(
+        table: *const u8,
+        table_len: usize,
+        path: *const u64,
+        path_len: usize,
+        message: *const u8,
+        message_len: usize,
+        place: *mut u64,
+        first: *mut u64,
+        second: *mut u64,
     ) -> u64;
 }
 
@@ -206,6 +250,7 @@ fn parsed(line: &str, area: &mut Area) -> Result<(&'static str, Result<(), Diffe
             ("frames", feeding(number(idx)?, array, &unhex(chunk)?))
         }
         ["T", kind, message, place] => ("taking", take(number(kind)?, &unhex(message)?, number(place)? as usize)),
+        ["I", table, path, message] => finding(&unhex(table)?, &words(path)?, &unhex(message)?),
         _ => return Err("unknown request".into()),
     })
 }

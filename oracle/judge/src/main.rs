@@ -1,9 +1,10 @@
 //! Holds every answer of the proved static library against the oracle: number, place, count, every
 //! word of the store, the rest, every byte of the output and of the work area, the accumulator's array
-//! and message.
+//! and message, an item's entry.
 //!
 //!   gen SEED COUNT | judge           request lines from stdin (PROTOCOL.md)
 //!   gen SEED COUNT strict | judge    strict reads alone
+//!   gen SEED COUNT find | judge      finds alone
 //!   judge short                      every message of up to two bytes, for each leaf kind and small tables
 //!
 //! Prints how many requests of each kind were compared, and each difference; exits with 1 if there was one.

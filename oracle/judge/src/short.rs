@@ -1,5 +1,6 @@
 //! Every message of up to two bytes, for each leaf kind and a set of small tables, with stores from no
-//! entry to more than enough, and words over, plainly and strictly; and every taking from every place.
+//! entry to more than enough, and words over, plainly and strictly; every taking from every place; and
+//! what short paths lead to.
 use crate::{calls, Tally};
 use oracle_driver::table::Table;
 
@@ -54,6 +55,10 @@ pub fn run() -> Tally {
                 let request = || format!("{table:02x?} {message:02x?}, {words} words");
                 tally.note("reading", calls::read(table, &message, words), request);
                 tally.note("strict reading", calls::read_strict(table, &message, words).1, request);
+            }
+            for path in [&[][..], &[0], &[1]] {
+                let (kind, outcome) = calls::finding(table, path, &message);
+                tally.note(kind, outcome, || format!("{table:02x?} {message:02x?}, path {path:?}"));
             }
         }
         for kind in 0..=33 {

@@ -3,6 +3,7 @@
 //!
 //!   speed leaves     varints and texts
 //!   speed messages   reading and writing
+//!   speed paths      one field by its path, beside a full read
 //!   speed question   the append question on shapes that grow by doubling
 //!   speed warehouse  tables of the second form: small, full, and the worst pairs; the last takes minutes
 //!   speed stack      how deep the stack is under the longest chain
@@ -11,6 +12,7 @@
 mod frames;
 mod leaves;
 mod messages;
+mod paths;
 mod question;
 mod stack;
 mod timing;
@@ -21,6 +23,7 @@ fn main() {
     for (name, report) in [
         ("leaves", leaves::report as fn()),
         ("messages", messages::report),
+        ("paths", paths::report),
         ("question", question::report),
         ("warehouse", warehouse::report),
         ("stack", stack::report),

@@ -18,6 +18,13 @@ fn stock(i: u64) -> Stock {
     Stock { store: 300 + i as u32, product: 5 + i * 1_000_003, count: -2 - i as i32 }
 }
 
+/// A table of 200 numbers, and a value of it.
+pub fn fields() -> (Table, [[u32; 25]; 8]) {
+    let nodes = vec![Node { kind: U32, kids: vec![] }, Node { kind: STRUCT, kids: vec![0; 200] }];
+    let value = std::array::from_fn(|i| std::array::from_fn(|j| (i * 1000 + j * 37) as u32));
+    (Table { nodes, root: 1 }, value)
+}
+
 /// A message and what it takes to read and write it: the table, as a file and parsed, its entries, and the
 /// crate's own reading and writing of it with types compiled in.
 struct Sample<'a> {
@@ -87,7 +94,7 @@ impl Sample<'_> {
     }
 }
 
-fn written<T: Serialize + ?Sized>(value: &T) -> Vec<u8> {
+pub fn written<T: Serialize + ?Sized>(value: &T) -> Vec<u8> {
     let mut out = vec![0; 1 << 17];
     let len = postcard::to_slice(value, &mut out).expect("room enough").len();
     out.truncate(len);
@@ -101,7 +108,7 @@ fn read_as<T: DeserializeOwned>(message: &[u8]) {
 pub fn report() {
     let one = stock(0);
     let many: Vec<Stock> = (0..1000).map(stock).collect();
-    let wide: [[u32; 25]; 8] = std::array::from_fn(|i| std::array::from_fn(|j| (i * 1000 + j * 37) as u32));
+    let (fields, wide) = fields();
     let ascii: String = (0..65536).map(|i| (b'a' + (i % 26) as u8) as char).collect();
     let mixed: String = "Milk 3.5% — lait entier, γάλα, 牛乳 🥛; ".repeat(1300);
 
@@ -109,8 +116,6 @@ pub fn report() {
     let mut sequence = Table::parse(reystavem::samples::TABLE_T).expect("a good table");
     sequence.nodes.push(Node { kind: SEQ, kids: vec![3] });
     sequence.root = 4;
-    let fields =
-        Table { nodes: vec![Node { kind: U32, kids: vec![] }, Node { kind: STRUCT, kids: vec![0; 200] }], root: 1 };
 
     let samples = [
         Sample {

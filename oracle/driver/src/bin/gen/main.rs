@@ -1,10 +1,12 @@
 //! `gen SEED COUNT` prints COUNT request lines for `oracle` (PROTOCOL.md), always the same
 //! ones for the same seed: first a fixed part of edge cases, then random rounds.
 //! `gen SEED COUNT strict` prints strict reads alone; more than a third of their answers are 16.
+//! `gen SEED COUNT find` prints finds alone.
 
 mod edges;
 mod forms;
 mod padded;
+mod paths;
 mod rounds;
 mod tables;
 
@@ -16,16 +18,18 @@ use std::io::{self, BufWriter, Write};
 
 fn main() {
     let args: Vec<String> = std::env::args().skip(1).collect();
-    let (seed, count, strict) = match &args[..] {
-        [seed, count] => (seed, count, false),
-        [seed, count, how] if how == "strict" => (seed, count, true),
+    let asked: Vec<&str> = args.iter().map(String::as_str).collect();
+    let (seed, count, stream) = match asked[..] {
+        [seed, count] => (seed, count, Stream::Plain),
+        [seed, count, "strict"] => (seed, count, Stream::Strict),
+        [seed, count, "find"] => (seed, count, Stream::Find),
         _ => {
-            eprintln!("usage: gen SEED COUNT [strict]");
+            eprintln!("usage: gen SEED COUNT [strict|find]");
             std::process::exit(2)
         }
     };
     let [seed, count] = [seed, count].map(|a| a.parse::<u64>().expect("SEED and COUNT, both decimal"));
-    let mut g = Gen { rng: Rng(0), left: count, strict, out: BufWriter::new(io::stdout().lock()) };
+    let mut g = Gen { rng: Rng(0), left: count, stream, out: BufWriter::new(io::stdout().lock()) };
     // Err means: enough lines, or nobody listens any more.
     let _ = g.all(seed);
     let _ = g.out.flush();
@@ -35,11 +39,19 @@ fn main() {
 struct Enough;
 type Go = Result<(), Enough>;
 
+/// What is asked: what 01 has, or one kind of request alone.
+#[derive(Clone, Copy, PartialEq)]
+enum Stream {
+    Plain,
+    /// Every read is a strict one.
+    Strict,
+    Find,
+}
+
 struct Gen {
     rng: Rng,
     left: u64,
-    /// Every read is a strict one, and nothing else is asked.
-    strict: bool,
+    stream: Stream,
     out: BufWriter<io::StdoutLock<'static>>,
 }
 
@@ -48,7 +60,7 @@ impl Gen {
         if self.left == 0 {
             return Err(Enough);
         }
-        if self.strict && letter != 'S' {
+        if self.stream == Stream::Strict && letter != 'S' {
             return Ok(());
         }
         self.left -= 1;
@@ -57,7 +69,7 @@ impl Gen {
     /// Into a store with room for so many entries, and up to two words more.
     fn read(&mut self, file: &[u8], message: &[u8], room: u64) -> Go {
         let words = WORDS as u64 * room + self.rng.below(WORDS) as u64;
-        let letter = if self.strict { 'S' } else { 'R' };
+        let letter = if self.stream == Stream::Strict { 'S' } else { 'R' };
         self.line(letter, format_args!("{} {} {words:x}", hex(file), hex(message)))
     }
     /// A list of items' two words each; the third may be anything.
@@ -86,6 +98,9 @@ impl Gen {
     fn take(&mut self, kind: u8, message: &[u8], place: u64) -> Go {
         self.line('T', format_args!("{kind:x} {} {place:x}", hex(message)))
     }
+    fn find(&mut self, file: &[u8], path: &[u64], message: &[u8]) -> Go {
+        self.line('I', format_args!("{} {} {}", hex(file), words_text(path), hex(message)))
+    }
 
     /// The words of entries that say of their items whatever place.
     fn placed(&mut self, items: &[[u64; 2]]) -> Vec<u64> {
@@ -102,18 +117,20 @@ impl Gen {
 
     /// The edge cases are the same for every seed.
     fn all(&mut self, seed: u64) -> Go {
-        if self.strict {
-            self.readings_at_the_edge()?;
-            self.paddings_at_the_edge()?;
-        } else {
-            self.edges()?;
+        match self.stream {
+            Stream::Plain => self.edges()?,
+            Stream::Strict => {
+                self.readings_at_the_edge()?;
+                self.paddings_at_the_edge()?;
+            }
+            Stream::Find => self.paths_at_the_edge()?,
         }
         self.rng = Rng(seed);
         loop {
-            if self.strict {
-                self.strict_round()?;
-            } else {
-                self.round()?;
+            match self.stream {
+                Stream::Plain => self.round()?,
+                Stream::Strict => self.strict_round()?,
+                Stream::Find => self.find_round()?,
             }
         }
     }

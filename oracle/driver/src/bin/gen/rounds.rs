@@ -41,8 +41,8 @@ impl Gen {
         Ok(())
     }
 
-    /// Few requests, since each is long: a table of any size, with chains as long as they may be, and too long.
-    fn large_round(&mut self) -> Go {
+    /// A table of any size, with chains as long as they may be, and too long.
+    pub fn large_table(&mut self) -> Table {
         let most = *self.rng.pick(&[300, 600, 1_200, 2_400, SECOND.nodes]);
         let n = self.rng.from_to(most / 2, most);
         let chain = *self.rng.pick(&[2, 5, 40, CHAIN - 1, CHAIN, CHAIN, CHAIN + 1, CHAIN + 40]);
@@ -50,6 +50,12 @@ impl Gen {
         // A root whose values aren't too large, if one is met.
         let min = fewest(&t);
         t.root = (0..40).map(|_| self.rng.below(n)).find(|&i| (3..300).contains(&min[i])).unwrap_or(n - 1);
+        t
+    }
+
+    /// Few requests, since each is long.
+    fn large_round(&mut self) -> Go {
+        let t = self.large_table();
         let file = self.file(&t);
         for len in [0, 3, 30] {
             let m = self.odd_bytes(len);
@@ -146,7 +152,7 @@ impl Gen {
         }
     }
 
-    fn odd_bytes(&mut self, len: usize) -> Vec<u8> {
+    pub fn odd_bytes(&mut self, len: usize) -> Vec<u8> {
         (0..len).map(|_| self.odd_byte()).collect()
     }
 
@@ -242,7 +248,7 @@ impl Gen {
     }
 
     /// A value of the table, if it has one that isn't too large.
-    fn sample(&mut self, t: &Table) -> Option<Sample> {
+    pub fn sample(&mut self, t: &Table) -> Option<Sample> {
         let min = fewest(t);
         if min[t.root] > 300 {
             return None;
@@ -370,27 +376,33 @@ impl Gen {
         self.write(file, &words, &broken, out)
     }
 
+    /// The table's file with one thing changed, mostly for the worse.
+    pub fn bad_table(&mut self, file: &[u8]) -> Vec<u8> {
+        let mut f = file.to_vec();
+        let n = f.len();
+        match self.rng.below(6) {
+            0 => f = f[self.rng.below(n)..].to_vec(),
+            1 => f.truncate(self.rng.below(n)),
+            2 => {
+                let p = n - 1 - self.rng.below(14);
+                f[p] = self.odd_byte();
+            }
+            3 => f[n - 2] = FIRST.mark[0] ^ SECOND.mark[0] ^ f[n - 2],
+            4 => {
+                let p = self.rng.below(n);
+                f[p] = *self.rng.pick(&[0, 1, 2, 12, 15, 16, 17, 18, 19, 20, 31, 32, 255]);
+            }
+            _ => {
+                let p = self.rng.below(n);
+                f[p] ^= 1 << self.rng.below(8);
+            }
+        }
+        f
+    }
+
     pub fn bad_tables(&mut self, file: &[u8], times: usize) -> Go {
         for _ in 0..times {
-            let mut f = file.to_vec();
-            let n = f.len();
-            match self.rng.below(6) {
-                0 => f = f[self.rng.below(n)..].to_vec(),
-                1 => f.truncate(self.rng.below(n)),
-                2 => {
-                    let p = n - 1 - self.rng.below(14);
-                    f[p] = self.odd_byte();
-                }
-                3 => f[n - 2] = FIRST.mark[0] ^ SECOND.mark[0] ^ f[n - 2],
-                4 => {
-                    let p = self.rng.below(n);
-                    f[p] = *self.rng.pick(&[0, 1, 2, 12, 15, 16, 17, 18, 19, 20, 31, 32, 255]);
-                }
-                _ => {
-                    let p = self.rng.below(n);
-                    f[p] ^= 1 << self.rng.below(8);
-                }
-            }
+            let f = self.bad_table(file);
             let m = self.odd_bytes(6);
             self.read(&f, &m, 6)?;
             if self.rng.chance(4) {

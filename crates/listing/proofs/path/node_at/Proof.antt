@@ -1,9 +1,9 @@
--- `listing::apart::node_at` meets its contract: a good table's root and children are nodes of it.
+-- `listing::path::node_at` meets its contract: a good table's root and children are nodes of it.
 -- Assumes nothing.
 use Prim.Native.Nat.{_-_, _<_}
 use borrow.Author.Needs.{needs}
-use Rattle.listing.proofs.apart.node_at.Statement.{statement}
-use Rattle.listing.proofs.apart.node_at.Tie as tie
+use Rattle.listing.proofs.path.node_at.Statement.{statement}
+use Rattle.listing.proofs.path.node_at.Tie as tie
 
 abbrev Inv-loop : tie.InvT-loop
 Inv-loop table l path depth aloud node₀ i₀ t10 node i = node < l .nodes

@@ -1,0 +1,3 @@
+-- What the questions of document 02 mean, one file a request.
+pub mod Path
+pub mod Cases

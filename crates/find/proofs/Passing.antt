@@ -1,4 +1,4 @@
--- The kinds that a path ends at or goes through, by their numbers, and what follows an item of the latter.
+-- The kinds that a path ends at or goes through, by their numbers; of the latter, the own item, and whether it has an inside.
 -- Assumes nothing.
 use mathlib.Core.Path.{_≡_, refl, sym, _∙_}
 use mathlib.Core.Bool.{Bool, true, false}

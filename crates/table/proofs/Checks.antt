@@ -3,7 +3,7 @@
 use mathlib.Core.Path.{_≡_, refl, sym, ap, _∙_}
 use mathlib.Core.Bool.{Bool, true, false}
 use mathlib.Core.List.{List}
-use Prim.Native.Nat.{ℕ, suc, _+_, _-_, _<_, _≤_}
+use Prim.Native.Nat.{ℕ, suc, max, _+_, _-_, _<_, _≤_}
 use native.Mathlib.Omega.{arith}
 use lib.Dec.{ltb}
 use lib.ListN.{length, getD}
@@ -14,7 +14,7 @@ use Rattle.wire.specs.declared.Layout.{Layout}
 use Rattle.wire.specs.declared.Checked.the-variants.{Good, Bad}
 use Rattle.wire.specs.Tests.{pick, given, both}
 use Rattle.wire.specs.Table.{u16At, TableForm, first, second, sizeOf, markOf, tableForm, endingAt, layoutAt, goodTrailer, kinds, isKind, kindOf, nodeAt, recordOf, below, goodKind, goodNode, chainOf, shortChain, goodIn, checkFrom, checkAt, checkAs, check}
-use Rattle.laws.proofs.Splits.{by-le, by-eq, both-left}
+use Rattle.laws.proofs.Splits.{by-lt, by-le, by-eq, both-left}
 use Rattle.table.specs.Parts.{badAt}
 
 -- ---- a node
@@ -56,21 +56,35 @@ module _ (s : List ℕ) (l : Layout) (i at head : ℕ) (here : at ≡ recordOf l
 -- ---- the numbers of children
 
 module _ (s : List ℕ) (i at left : ℕ) where
-  pub below-none : left ≤ 0 → true ≡ below s i at left
-  unfolding below
-  below-none h = let e : left ≡ 0 = omega arith in rw e
-
   more : 0 < left → below s i at left ≡ both (ltb (u16At s at) i) (below s i (at + 2) (left - 1))
   unfolding below
   more h = let e : left ≡ suc (left - 1) = omega arith in ap (below s i at) e
 
-  pub below-no : 0 < left → i ≤ u16At s at → false ≡ below s i at left
+  -- the largest of none is 0, which is below whatever a number is below
+  pub below-start : 0 < left → both (ltb 0 i) (below s i at left) ≡ below s i at left
   unfolding both
-  below-no h g = rw (more h, le-ltb (u16At s at) i g)
+  below-start h = by-lt 0 i (λ lo. rw (lt-ltb 0 i lo)) (λ hi. rw (le-ltb 0 i hi, more h, le-ltb (u16At s at) i (omega arith)))
 
-  pub below-next : 0 < left → u16At s at < i → below s i at left ≡ below s i (at + 2) (left - 1)
+  max-below : (a b : ℕ) (x : Bool) → both (ltb (max a b) i) x ≡ both (ltb a i) (both (ltb b i) x)
   unfolding both
-  below-next h g = rw (more h, lt-ltb (u16At s at) i g)
+  max-below a b x =
+      by-lt a i
+      (λ lo. by-lt b i (λ low. rw (lt-ltb a i lo, lt-ltb b i low, lt-ltb (max a b) i (omega arith))) (λ high. rw (lt-ltb a i lo, le-ltb b i high, le-ltb (max a b) i (omega arith))))
+      (λ hi. rw (le-ltb a i hi, le-ltb (max a b) i (omega arith)))
+
+  -- one number more
+  pub below-turn : (largest child : ℕ) (whole : Bool) → both (ltb largest i) (below s i at left) ≡ whole → 0 < left → child ≡ u16At s at
+      → both (ltb (max largest child) i) (below s i (at + 2) (left - 1)) ≡ whole
+  below-turn largest child whole e h c = rw c (max-below largest (u16At s at) _ ∙ ap (both (ltb largest i)) (sym (more h)) ∙ e)
+
+  -- none is left, and the largest decides
+  pub below-end : (largest : ℕ) → left ≤ 0 → ltb largest i ≡ both (ltb largest i) (below s i at left)
+  unfolding below both
+  below-end largest h = let e : left ≡ 0 = omega arith in rw e (go (ltb largest i))
+    where
+      go : (x : Bool) → x ≡ both x true
+      go true = refl
+      go false = refl
 
 -- ---- the nodes
 

@@ -67,6 +67,12 @@ fn wide(x: u8) -> usize
     x as usize
 }
 
+fn wider(x: u16) -> usize
+    ensures { λ r. ⌜ r ≡ x ⌝ }
+{
+    x as usize
+}
+
 // The u16 at an offset, as a child's number stands in the table.
 pub fn u16_at(table: &[u8], at: usize) -> usize
     requires { ⌜ at + 2 ≤ length (now table) ⌝ }
@@ -175,22 +181,31 @@ fn both_zero(a: usize, b: usize) -> bool
     false
 }
 
-// Whether so many numbers from an offset on are below a node.
+fn larger(a: u16, b: u16) -> u16
+    ensures { λ r. ⌜ r ≡ max a b ⌝ }
+{
+    if a < b {
+        return b;
+    }
+    a
+}
+
+// Whether so many numbers from an offset on, of which there is one, are below a node. All are gone through, for the largest of
+// them: the compiler then takes eight at a time, which it doesn't where a loop may end early.
 fn all_below(table: &[u8], node: usize, from: usize, count: usize) -> bool
-    requires { ⌜ from + 2 * count ≤ length (now table) ⌝ }
+    requires { ⌜ (from + 2 * count ≤ length (now table)) × (0 < count) ⌝ }
     ensures { λ r. ⌜ r ≡ allBelow (now (table .entry)) node from count ⌝ }
 {
+    let mut largest: u16 = 0;
     let mut at = from;
     let mut left = count;
     while 0 < left {
         let child = u16_at(table, at);
-        if node <= child {
-            return false;
-        }
+        largest = larger(largest, child as u16);
         at = at + 2;
         left = left - 1;
     }
-    true
+    wider(largest) < node
 }
 
 // A record of an option or a sequence, whose child's number is a.
@@ -213,10 +228,10 @@ fn both_below(node: usize, a: usize, b: usize) -> bool
     false
 }
 
-// Whether b places from the a-th on are in the child list, with numbers below the node.
+// Whether b places, of which there is one, from the a-th on are in the child list, with numbers below the node.
 fn good_list(table: &[u8], l: Layout, node: usize, a: usize, b: usize) -> bool
     requires { ⌜ Inside (now table) l ⌝ }
-    requires { ⌜ (a < 65536) × (b < 65536) ⌝ }
+    requires { ⌜ (a < 65536) × (b < 65536) × (0 < b) ⌝ }
     ensures { λ r. ⌜ r ≡ listed (now (table .entry)) l node a b ⌝ }
 {
     if l.places < a + b {
@@ -310,15 +325,6 @@ fn children_of(number: u8, b: usize) -> usize
         18 | 19 => b,
         _ => 0,
     }
-}
-
-fn larger(a: u16, b: u16) -> u16
-    ensures { λ r. ⌜ r ≡ max a b ⌝ }
-{
-    if a < b {
-        return b;
-    }
-    a
 }
 
 // The longest chain of so many nodes whose numbers stand from an offset on.
@@ -458,13 +464,14 @@ fn anew(got: Checked) -> Checked
 
 // The table's layout if it is good; else why it is not, and the first node that is not. What has no good trailer of the first
 // form is left to the second's check, by two calls: of one alone the compiler would make a part of this function, and every
-// check would pay for the array of chains.
+// check would pay for the array of chains. It is lent the table as a part: to lend the table itself, every check would first copy
+// where it lies, by a load that waits for the caller's two stores.
 pub fn check(table: &[u8]) -> Checked
     ensures { λ r. ⌜ r ≡ checkOf (now (table .entry)) ⌝ }
 {
     let len = table.len();
     if len < First::SIZE {
-        return anew(check_second(table));
+        return anew(check_second(&table[0..]));
     }
     let end = len - First::SIZE;
     let t = first_ending(table, end);
@@ -473,7 +480,7 @@ pub fn check(table: &[u8]) -> Checked
         let bad = first_bad(table, l);
         return answer(l, bad);
     }
-    anew(check_second(table))
+    anew(check_second(&table[0..]))
 }
 
 // ---- a good table's nodes

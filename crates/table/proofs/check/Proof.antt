@@ -3,19 +3,29 @@
 use mathlib.Core.Path.{sym, ap, subst, _∙_}
 use native.Mathlib.Omega.{arith}
 use borrow.Author.Needs.{needs}
-use Rattle.wire.specs.Table.{first, sizeOf, checkFrom}
+use Rattle.wire.specs.Table.{first, second, sizeOf, checkFrom, checkAs}
+use Rattle.laws.proofs.Parts.{tail}
 use Rattle.table.specs.Parts.{Inside}
 use Rattle.table.proofs.Trailers.{fits-first, inside, layout-inside}
 use Rattle.table.proofs.Checks.{check-short, check-bad, check-good, first-good, first-bad}
 use Rattle.table.proofs.check.Statement.{statement}
 use Rattle.table.proofs.check.Tie as tie
 
+sub-check-second : tie.Need-sub-check-second
+sub-check-second c = search needs
+
+part-check-second-start : tie.Need-part-check-second-start
+part-check-second-start c = search needs
+
+part-check-second-end : tie.Need-part-check-second-end
+part-check-second-end c = search needs
+
 check-second-requires : tie.Need-check-second-requires
 check-second-requires c κs = search needs
 
 returns : tie.Need-returns
 unfolding sizeOf
-returns c = c .anew .ensures ∙ c .before .check-second .ensures ∙ first-bad _ (check-short first _ (c .before .before .if1 .taken))
+returns c = c .anew .ensures ∙ c .before .check-second .ensures ∙ ap (checkAs second) (tail _ 0) ∙ first-bad _ (check-short first _ (c .before .before .before .if1 .taken))
 
 anew-requires : tie.Need-anew-requires
 anew-requires c κs = search needs
@@ -42,6 +52,15 @@ returns-2 c = let t = c .before .before .before .before .before .first-ending .e
     c .answer .ensures ∙ sym (c .before .first-bad .ensures) ∙ ap (λ l. checkFrom first (c .before .before .before .before .before .before .before .before .args .table .now) l 0 (l .nodes)) (c .before .before .layout-at .ensures)
     ∙ check-good first _ _ (omega arith) _ t good ∙ first-good _ _ (omega arith) (rw t at (sym good))
 
+sub-check-second-2 : tie.Need-sub-check-second-2
+sub-check-second-2 c = search needs
+
+part-check-second-start-2 : tie.Need-part-check-second-start-2
+part-check-second-start-2 c = search needs
+
+part-check-second-end-2 : tie.Need-part-check-second-end-2
+part-check-second-end-2 c = search needs
+
 check-second-requires-2 : tie.Need-check-second-requires-2
 check-second-requires-2 c κs = search needs
 
@@ -51,14 +70,17 @@ anew-requires-2 c κs = search needs
 returns-3 : tie.Need-returns-3
 unfolding sizeOf
 returns-3 c =
-    let b = c .before .before in
-    c .anew2 .ensures ∙ c .before .check-second2 .ensures
+    let b = c .before .before .before in
+    c .anew2 .ensures ∙ c .before .check-second2 .ensures ∙ ap (checkAs second) (tail _ 0)
     ∙ first-bad _ (check-bad first _ _ (omega arith) _ (b .before .before .first-ending .ensures .0) (sym (b .if2 .left) ∙ b .before .good-trailer .ensures ∙ fits-first _ _))
 
 pub check-spec : {M : Type 1} → statement M
 check-spec =
     tie.close
     (tie.spec
+    sub-check-second
+    part-check-second-start
+    part-check-second-end
     check-second-requires
     anew-requires
     returns
@@ -68,6 +90,9 @@ check-spec =
     first-bad-requires
     answer-requires
     returns-2
+    sub-check-second-2
+    part-check-second-start-2
+    part-check-second-end-2
     check-second-requires-2
     anew-requires-2
     returns-3)

@@ -22,7 +22,7 @@ add-all-below : tie.Need-add-all-below
 add-all-below c = omega arith
 
 all-below-requires : tie.Need-all-below-requires
-all-below-requires c κs = omega arith
+all-below-requires c κs = (omega arith, omega arith)
 
 returns-2 : tie.Need-returns-2
 unfolding listed both

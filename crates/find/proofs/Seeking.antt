@@ -30,6 +30,7 @@ use Rattle.laws.proofs.Runs.{fit-then}
 use Rattle.laws.proofs.Tables.{next-place}
 use Rattle.table.specs.Parts.{Falls, rowStep}
 use Rattle.table.proofs.Stretches.{node-falls}
+use Rattle.wire.specs.Answers.{readAnswer}
 use Rattle.leaf.specs.Leaves.{takeAt}
 use Rattle.read_item.specs.Steps.{spot, ownOf}
 use Rattle.read_item.proofs.Entering.{number-small}
@@ -100,6 +101,15 @@ module _ (s : List ℕ) (l : Layout) (at which : ℕ) (bs : List ℕ) (p m : ℕ
     where
       less : (k : ℕ) → n ≡ m + k → mostEntries - m - k ≡ mostEntries - n
       less k q = omega arith
+
+-- a row of none
+module _ (s : List ℕ) (l : Layout) (at : ℕ) (bs : List ℕ) (p m : ℕ) where
+  none-said : answerBehind m (fit (mostEntries - m) (rowStep (reading head) s l at 0 (spot bs p))) ≡ Done p m
+  unfolding answerBehind readAnswer rowStep shapesAt all walks readNothing fit within
+  none-said = rw (add-zero m)
+
+  pub skimmed-none : {which c : ℕ} → which ≡ 0 → c ≡ u16At s at → Passes s l (u16At s (at + 2 * which)) bs p (seekBehind s l at which (mostEntries - m) (spot bs p)) (In c p m)
+  skimmed-none {which} {c} z e = rw z (skimmed-on s l at 0 bs p m refl none-said (e ∙ ap (u16At s) (sym (add-zero at))))
 
 -- a step that began u bytes on
 pub passes-behind : {s : List ℕ} {l : Layout} {c : ℕ} (bs : List ℕ) (p u : ℕ) (whole here : List ℕ → FindAnswer) {r : Passed} → u ≤ length bs

@@ -96,7 +96,7 @@ fn leads(table: &[u8], l: Layout, path: &[u64]) -> bool
 
 // ---- along the path
 
-// The fields in front of the child at a position are skimmed.
+// The fields in front of the child at a position are skimmed. In front of the first there are none, and no call is made for them.
 fn skim_front(
     table: &[u8],
     l: Layout,
@@ -113,6 +113,13 @@ fn skim_front(
     requires { ⌜ place + length (now part) < 2 ^ 64 ⌝ }
     ensures { λ r. ⌜ Passes (now (table .entry)) l (u16At (now (table .entry)) (from + 2 * which)) (now (part .entry)) place (seekBehind (now (table .entry)) l from which (mostEntries - made) (spot (now (part .entry)) place)) r ⌝ }
 {
+    if which == 0 {
+        return Passed::In {
+            node: table::u16_at(table, from),
+            place,
+            made,
+        };
+    }
     let got = reader::skim_row(table, l, node, from, which, part, place, ROOM, made);
     match got {
         ReadAnswer::Refused {

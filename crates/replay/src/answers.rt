@@ -1,5 +1,6 @@
 // Asks again what a record asked, and compares the whole of the answer with the record's. HOW.md has
 // the order of a record's parts.
+use desk::CompareAnswer;
 use desk::FindAnswer;
 use recorded::field;
 use recorded::memory;
@@ -10,9 +11,10 @@ use wire::WriteAnswer;
 ghost use mathlib.Core.Path.{_≡_};
 ghost use Rattle.wire.specs.Answers.{readSays, writeSays, askSays, takeSays};
 ghost use Rattle.desk.specs.Path.{findSays, firstOf, secondOf};
-ghost use Rattle.replay.specs.Told.{Tells, made, which};
+ghost use Rattle.desk.specs.Differ.{compareSays};
+ghost use Rattle.replay.specs.Told.{Tells, made, which, pairsOrWhich};
 
-// The room for the words of a store, a value list or a path, for the bytes of an output and of an accumulator.
+// The room for the words of a store, a value list, a path or a list of pairs, for the bytes of an output and of an accumulator.
 const WORDS: usize = 256 * entry::WORDS;
 
 const OUT: usize = 1024;
@@ -35,6 +37,7 @@ pub enum Kind {
     Feed,
     Take,
     Find,
+    Compare,
 }
 
 // The numbers that an answer of any kind begins with: document 01's number, and two more.
@@ -54,6 +57,7 @@ pub fn fields(kind: Kind) -> usize {
         Kind::Feed => 10,
         Kind::Take => 8,
         Kind::Find => 7,
+        Kind::Compare => 8,
     }
 }
 
@@ -421,6 +425,60 @@ fn find_agrees(record: &[u8]) -> bool {
     find_by(record, &mut words)
 }
 
+// ---- two messages side by side
+
+fn compare_told(answer: CompareAnswer) -> Told
+    ensures { λ r. ⌜ Tells (compareSays answer) (pairsOrWhich answer) r ⌝ }
+{
+    match answer {
+        CompareAnswer::Done { count } => Told {
+            number: 0,
+            second: 0,
+            third: count as u64,
+        },
+        CompareAnswer::Short => Told {
+            number: numbers::SHORT_LIST,
+            second: 0,
+            third: 0,
+        },
+        CompareAnswer::Refused { why, place } => Told {
+            number: numbers::refusal(why),
+            second: place as u64,
+            third: 0,
+        },
+        CompareAnswer::OtherRefused { why, place } => Told {
+            number: numbers::refusal(why),
+            second: place as u64,
+            third: 1,
+        },
+    }
+}
+
+// Whether comparing into a list gives what the record has; `then` is another list like it.
+fn compare_over(record: &[u8], list: &mut [u64], then: &mut [u64]) -> bool {
+    let size = field::number_at(record, 6) as usize;
+    if list.len() < size {
+        return false;
+    }
+    let answer = compare::compare(
+        field::part(record, 3),
+        field::part(record, 4),
+        field::part(record, 5),
+        &mut list[..size],
+    );
+    if !tells(record, compare_told(answer)) {
+        return false;
+    }
+    memory::put_words(then, field::part(record, 7));
+    memory::same_words(list, then)
+}
+
+fn compare_agrees(record: &[u8]) -> bool {
+    let mut list = [BEFORE; WORDS];
+    let mut then = [BEFORE; WORDS];
+    compare_over(record, &mut list, &mut then)
+}
+
 // ---- any record
 
 // Whether the answer to what a record asks is the record's.
@@ -433,5 +491,6 @@ pub fn agrees(kind: Kind, record: &[u8]) -> bool {
         Kind::Feed => feed_agrees(record),
         Kind::Take => take_agrees(record),
         Kind::Find => find_agrees(record),
+        Kind::Compare => compare_agrees(record),
     }
 }

@@ -1,10 +1,10 @@
--- `replay::compare::write_told` meets its contract: each case has the number and the place that `writeSays` gives it.
+-- `replay::answers::write_told` meets its contract: each case has the number and the place that `writeSays` gives it.
 -- Assumes nothing.
 use mathlib.Core.Path.{refl}
 use borrow.Author.Needs.{needs}
 use Rattle.wire.specs.Answers.{writeSays, done, numbered}
-use Rattle.replay.proofs.compare.write_told.Statement.{statement}
-use Rattle.replay.proofs.compare.write_told.Tie as tie
+use Rattle.replay.proofs.answers.write_told.Statement.{statement}
+use Rattle.replay.proofs.answers.write_told.Tie as tie
 
 enum-known-answer : tie.Need-enum-known-answer
 enum-known-answer c = search needs

@@ -1,11 +1,11 @@
--- `replay::compare::find_told` meets its contract: each case has the number and the place that `findSays` gives it.
+-- `replay::answers::find_told` meets its contract: each case has the number and the place that `findSays` gives it.
 -- Assumes nothing.
 use mathlib.Core.Path.{refl}
 use Rattle.wire.specs.Answers.{done, numbered}
 use Rattle.desk.specs.Path.{findSays, firstOf}
 use borrow.Author.Needs.{needs}
-use Rattle.replay.proofs.compare.find_told.Statement.{statement}
-use Rattle.replay.proofs.compare.find_told.Tie as tie
+use Rattle.replay.proofs.answers.find_told.Statement.{statement}
+use Rattle.replay.proofs.answers.find_told.Tie as tie
 
 enum-known-answer : tie.Need-enum-known-answer
 enum-known-answer c = search needs

@@ -1,11 +1,11 @@
--- `replay::compare::is_all` is safe: the loop stays within the part.
+-- `replay::answers::is_all` is safe: the loop stays within the part.
 -- Assumes nothing.
 use Prim.Native.Nat.{_-_, _≤_}
 use native.Mathlib.Omega.{arith}
 use lib.ListN.{length}
 use borrow.Author.Needs.{needs}
-use Rattle.replay.proofs.compare.is_all.Statement.{statement}
-use Rattle.replay.proofs.compare.is_all.Tie as tie
+use Rattle.replay.proofs.answers.is_all.Statement.{statement}
+use Rattle.replay.proofs.answers.is_all.Tie as tie
 
 abbrev Inv-loop : tie.InvT-loop
 Inv-loop part byte others₀ i₀ others i = i ≤ length part

@@ -1,11 +1,11 @@
--- `replay::compare::ask_within` is safe: the part of the area that is lent is inside it.
+-- `replay::answers::ask_within` is safe: the part of the area that is lent is inside it.
 -- Assumes nothing.
 use mathlib.Core.Path.{sym}
 use native.Mathlib.Omega.{arith}
 use borrow.Author.Needs.{needs}
 use lib.Seq.{length-take-le}
-use Rattle.replay.proofs.compare.ask_within.Statement.{statement}
-use Rattle.replay.proofs.compare.ask_within.Tie as tie
+use Rattle.replay.proofs.answers.ask_within.Statement.{statement}
+use Rattle.replay.proofs.answers.ask_within.Tie as tie
 
 number-at-requires : tie.Need-number-at-requires
 number-at-requires c κs = search needs

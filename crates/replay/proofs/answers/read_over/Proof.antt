@@ -1,11 +1,11 @@
--- `replay::compare::read_over` is safe: the part of the store that is lent is inside it.
+-- `replay::answers::read_over` is safe: the part of the store that is lent is inside it.
 -- Assumes nothing.
 use mathlib.Core.Path.{sym}
 use native.Mathlib.Omega.{arith}
 use borrow.Author.Needs.{needs}
 use lib.Seq.{length-take-le}
-use Rattle.replay.proofs.compare.read_over.Statement.{statement}
-use Rattle.replay.proofs.compare.read_over.Tie as tie
+use Rattle.replay.proofs.answers.read_over.Statement.{statement}
+use Rattle.replay.proofs.answers.read_over.Tie as tie
 
 number-at-requires : tie.Need-number-at-requires
 number-at-requires c κs = search needs

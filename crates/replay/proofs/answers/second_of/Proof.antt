@@ -1,10 +1,10 @@
--- `replay::compare::second_of` meets its contract, case by case.
+-- `replay::answers::second_of` meets its contract, case by case.
 -- Assumes nothing.
 use mathlib.Core.Path.{refl}
 use Rattle.desk.specs.Path.{secondOf}
 use borrow.Author.Needs.{needs}
-use Rattle.replay.proofs.compare.second_of.Statement.{statement}
-use Rattle.replay.proofs.compare.second_of.Tie as tie
+use Rattle.replay.proofs.answers.second_of.Statement.{statement}
+use Rattle.replay.proofs.answers.second_of.Tie as tie
 
 enum-known-answer : tie.Need-enum-known-answer
 enum-known-answer c = search needs

@@ -1,11 +1,11 @@
--- `replay::compare::ask_told` meets its contract: each case has the number and the place that `askSays` gives it.
+-- `replay::answers::ask_told` meets its contract: each case has the number and the place that `askSays` gives it.
 -- Assumes nothing.
 use mathlib.Core.Path.{refl}
 use borrow.Author.Needs.{needs}
 use Rattle.wire.specs.Answers.{askSays, done, numbered}
 use Rattle.replay.specs.Told.{which}
-use Rattle.replay.proofs.compare.ask_told.Statement.{statement}
-use Rattle.replay.proofs.compare.ask_told.Tie as tie
+use Rattle.replay.proofs.answers.ask_told.Statement.{statement}
+use Rattle.replay.proofs.answers.ask_told.Tie as tie
 
 enum-known-answer : tie.Need-enum-known-answer
 enum-known-answer c = search needs

@@ -1,11 +1,11 @@
--- `replay::compare::is_handed_back` is safe: both parts are inside the area.
+-- `replay::answers::is_handed_back` is safe: both parts are inside the area.
 -- Assumes nothing.
 use mathlib.Core.Path.{sym}
 use native.Mathlib.Omega.{arith}
 use borrow.Author.Needs.{needs}
 use lib.Seq.{length-take-le}
-use Rattle.replay.proofs.compare.is_handed_back.Statement.{statement}
-use Rattle.replay.proofs.compare.is_handed_back.Tie as tie
+use Rattle.replay.proofs.answers.is_handed_back.Statement.{statement}
+use Rattle.replay.proofs.answers.is_handed_back.Tie as tie
 
 returns : tie.Need-returns
 returns c = search needs

@@ -1,11 +1,11 @@
--- `replay::compare::write_over` is safe: the parts that are lent are inside their memory.
+-- `replay::answers::write_over` is safe: the parts that are lent are inside their memory.
 -- Assumes nothing.
 use mathlib.Core.Path.{sym}
 use native.Mathlib.Omega.{arith}
 use borrow.Author.Needs.{needs}
 use lib.Seq.{length-take-le}
-use Rattle.replay.proofs.compare.write_over.Statement.{statement}
-use Rattle.replay.proofs.compare.write_over.Tie as tie
+use Rattle.replay.proofs.answers.write_over.Statement.{statement}
+use Rattle.replay.proofs.answers.write_over.Tie as tie
 
 part-requires : tie.Need-part-requires
 part-requires c κs = search needs

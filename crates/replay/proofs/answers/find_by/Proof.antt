@@ -1,11 +1,11 @@
--- `replay::compare::find_by` is safe: the path that is lent is inside its memory.
+-- `replay::answers::find_by` is safe: the path that is lent is inside its memory.
 -- Assumes nothing.
 use mathlib.Core.Path.{sym}
 use native.Mathlib.Omega.{arith}
 use lib.Seq.{length-take-le}
 use borrow.Author.Needs.{needs}
-use Rattle.replay.proofs.compare.find_by.Statement.{statement}
-use Rattle.replay.proofs.compare.find_by.Tie as tie
+use Rattle.replay.proofs.answers.find_by.Statement.{statement}
+use Rattle.replay.proofs.answers.find_by.Tie as tie
 
 part-requires : tie.Need-part-requires
 part-requires c κs = search needs

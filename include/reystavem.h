@@ -11,6 +11,7 @@
  *    6  a char isn't one                         12  the output is too short
  *   13  the path doesn't lead to an item that can be asked for
  *   14  an option on the path is absent
+ *   15  the list is too short for the differences
  *   16  not shortest: an item's bytes aren't the ones that a writer writes for its value
  *   20 to 24, a feed's answers: consumed, over-full, bad frame, frame, bad state
  *   25  the work area is too short
@@ -97,6 +98,21 @@ uint64_t reystavem_find(const uint8_t *table, size_t table_len,
                         const uint64_t *path, size_t path_len,
                         const uint8_t *message, size_t message_len,
                         uint64_t *place, uint64_t *first, uint64_t *second);
+
+/* Lists the items in which two messages differ, in reading order, two words each: the item's place in
+ * the one message and in the other. *count: how many; 0 exactly if the values are the same. They stand
+ * in front in the list; later words are as before. Where an option, a variant, or a number of elements
+ * or pairs differs, that item is listed and its inside isn't compared. Texts and bytes compare by
+ * content and floats by bits; how long a varint is, and a rest behind a message, don't count. *place
+ * is 0 when done. Refusals: of the table; of the one message, then of the other, each read as with a
+ * store of 16384 entries; then 15, at place 0, if the list has room for fewer pairs: half of its words,
+ * rounded down. *which: 1 for a refusal of the other message, else 0. On a refusal *count is 0 and the
+ * list unchanged. */
+uint64_t reystavem_compare(const uint8_t *table, size_t table_len,
+                           const uint8_t *one, size_t one_len,
+                           const uint8_t *other, size_t other_len,
+                           uint64_t *list, size_t list_words,
+                           uint64_t *place, uint64_t *which, uint64_t *count);
 
 #ifdef __cplusplus
 }

@@ -89,6 +89,19 @@ mod ffi {
             first: *mut u64,
             second: *mut u64,
         ) -> u64;
+        pub fn reystavem_compare(
+            table: *const u8,
+            table_len: usize,
+            one: *const u8,
+            one_len: usize,
+            other: *const u8,
+            other_len: usize,
+            list: *mut u64,
+            list_words: usize,
+            place: *mut u64,
+            which: *mut u64,
+            count: *mut u64,
+        ) -> u64;
     }
 }
 
@@ -124,6 +137,8 @@ pub enum Why {
     Path = 13,
     /// An option on the path is absent.
     Absent = 14,
+    /// The list is too short for the differences.
+    List = 15,
     /// An item's bytes aren't the ones that a writer writes for its value; strict reading only.
     NotShortest = 16,
     /// The work area is shorter than `AREA`.
@@ -147,6 +162,7 @@ impl Why {
             12 => Why::Full,
             13 => Why::Path,
             14 => Why::Absent,
+            15 => Why::List,
             16 => Why::NotShortest,
             25 => Why::Area,
             _ => unreachable!("the library's contract has no other number"),
@@ -489,6 +505,61 @@ pub fn find(table: &[u8], path: &[u64], message: &[u8]) -> Result<Entry, Refused
         }),
         _ => Err(refused(number, place)),
     }
+}
+
+/// One of the two messages that are compared.
+#[derive(Clone, Copy, Debug, PartialEq, Eq)]
+pub enum Message {
+    One,
+    Other,
+}
+
+/// Lists the items in which two messages differ, in reading order: how many pairs of places stand in front in the list
+/// (`differences`), none exactly if the values are the same. Words behind them stay as they were.
+///
+/// Where an option, a variant, or a number of elements or pairs differs, that item is listed and its inside isn't
+/// compared. Texts and bytes compare by content and floats by bits; how long a varint is, and a rest behind a message,
+/// don't count. Each message is read as with a store of 16,384 entries, and a refusal of one of them names it. A list
+/// has room for half of its words in pairs, rounded down; that it is too short comes last. On a refusal it is unchanged.
+///
+/// ```
+/// # let table = reystavem::samples::TABLE_T;
+/// let mut list = [0; 8];
+/// let count = reystavem::compare(table, &[0xac, 0x02, 0x05, 0x03], &[0xac, 0x02, 0x05, 0x05], &mut list).unwrap();
+/// let places: Vec<_> = reystavem::differences(&list).take(count).collect();
+/// assert_eq!(places, [(3, 3)]);
+/// ```
+#[inline]
+pub fn compare(table: &[u8], one: &[u8], other: &[u8], list: &mut [u64]) -> Result<usize, (Option<Message>, Refused)> {
+    let (mut place, mut which, mut count) = (0, 0, 0);
+    // SAFETY: each slice is lent with its own length; `list` is borrowed for us alone.
+    let number = unsafe {
+        ffi::reystavem_compare(
+            table.as_ptr(),
+            table.len(),
+            one.as_ptr(),
+            one.len(),
+            other.as_ptr(),
+            other.len(),
+            list.as_mut_ptr(),
+            list.len(),
+            &mut place,
+            &mut which,
+            &mut count,
+        )
+    };
+    let message = match (number, which) {
+        (0, _) => return Ok(count as usize),
+        (1 | 2 | 15, _) => None,
+        (_, 0) => Some(Message::One),
+        (_, _) => Some(Message::Other),
+    };
+    Err((message, refused(number, place)))
+}
+
+/// The pairs of places that a list holds: an item's in the one message, and in the other.
+pub fn differences(list: &[u64]) -> impl Iterator<Item = (usize, usize)> + '_ {
+    list.chunks_exact(2).map(|pair| (pair[0] as usize, pair[1] as usize))
 }
 
 /// Tables to try things with.

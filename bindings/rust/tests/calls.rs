@@ -265,3 +265,61 @@ fn an_item_is_found_among_the_first_16384() {
     assert_eq!(find(&crowd, &[1], &fits), Ok(Entry { first: 9, second: 0, place: 2 }));
     assert_eq!(find(&crowd, &[1], &too_many), Err(Refused { why: Why::Room, place: 2 }));
 }
+
+/// How many differ, and the list as it was left.
+fn compared<const N: usize>(
+    table: &[u8],
+    one: &[u8],
+    other: &[u8],
+) -> (Result<usize, (Option<Message>, Refused)>, [u64; N]) {
+    let mut list = [7; N];
+    (compare(table, one, other, &mut list), list)
+}
+
+#[test]
+fn the_places_of_what_differs() {
+    let count = [0xac, 0x02, 0x05, 0x03];
+    assert_eq!(compared(TABLE_T, &count, &count), (Ok(0), [7; 4]));
+    assert_eq!(compared(TABLE_T, &count, &[0xac, 0x02, 0x05, 0x05]), (Ok(1), [3, 3, 7, 7, 7]));
+    assert_eq!(compared(TABLE_T, &count, &[0x07, 0x05, 0x04]), (Ok(2), [0, 0, 3, 2]));
+    // A longer spelling of the product, and a rest.
+    assert_eq!(compared(TABLE_T, &count, &[0xac, 0x02, 0x85, 0x00, 0x03, 0x09]), (Ok(0), []));
+    let (answer, list) = compared::<6>(TABLE_T, &[1, 2, 3], &[4, 2, 5]);
+    assert_eq!(differences(&list).take(answer.unwrap()).collect::<Vec<_>>(), [(0, 0), (2, 2)]);
+}
+
+#[test]
+fn values_are_compared_and_not_bytes() {
+    // Texts by content, wherever they stand; floats by bits; a char's own value.
+    let text = table(&[[6, 0, 0], [12, 0, 0], [18, 0, 2]], &[0, 1]);
+    assert_eq!(compared(&text, &[7, 1, 0x61], &[0x87, 0, 0x81, 0, 0x61]), (Ok(0), []));
+    assert_eq!(compared(&text, &[7, 1, 0x61], &[0x87, 0, 1, 0x62]), (Ok(1), [1, 2]));
+    let nan = 0x7fc0_0001_u32.to_le_bytes();
+    assert_eq!(compared(&leaf(9), &nan, &nan), (Ok(0), []));
+    assert_eq!(compared(&leaf(9), &nan, &0x7fc0_0000_u32.to_le_bytes()), (Ok(1), [0, 0]));
+    assert_eq!(compared(&leaf(9), &[0, 0, 0, 0], &[0, 0, 0, 0x80]), (Ok(1), [0, 0]));
+    assert_eq!(compared(&leaf(11), &[0x01, 0x61], &[0x02, 0x61, 0x62]), (Ok(0), []));
+}
+
+#[test]
+fn a_number_of_elements_differs_and_not_their_insides() {
+    // Elements, and a number behind them, which is compared again.
+    let shelf = table(&[[5, 0, 0], [16, 0, 0], [18, 0, 2]], &[1, 0]);
+    assert_eq!(compared(&shelf, &[2, 4, 5, 9], &[1, 6, 9]), (Ok(1), [0, 0, 7]));
+    assert_eq!(compared(&shelf, &[2, 4, 5, 9], &[1, 6, 8]), (Ok(2), [0, 0, 3, 2]));
+    assert_eq!(compared(&shelf, &[2, 4, 5, 9], &[2, 4, 6, 9]), (Ok(1), [2, 2]));
+}
+
+#[test]
+fn a_refusal_names_its_message_and_leaves_the_list() {
+    let (count, cut) = ([0xac, 0x02, 0x05, 0x03], [0xac, 0x02, 0x05]);
+    let ends = Refused { why: Why::End, place: 3 };
+    assert_eq!(compared(TABLE_T, &cut, &[]), (Err((Some(Message::One), ends)), [7; 4]));
+    assert_eq!(compared(TABLE_T, &count, &cut), (Err((Some(Message::Other), ends)), [7; 4]));
+    let record = Refused { why: Why::Record, place: 0 };
+    assert_eq!(compared(&leaf(32), &[], &[]), (Err((None, record)), [7; 4]));
+    // Three differences want six words.
+    let short = Refused { why: Why::List, place: 0 };
+    assert_eq!(compared(TABLE_T, &[1, 2, 3], &[4, 5, 6]), (Err((None, short)), [7; 5]));
+    assert_eq!(compared(TABLE_T, &[1, 2, 3], &[4, 5, 6]), (Ok(3), [0, 0, 1, 1, 2, 2]));
+}

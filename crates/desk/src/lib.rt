@@ -18,3 +18,12 @@ pub enum FindAnswer {
         place: usize,
     },
 }
+
+// What the comparison of two messages answers: how many items differ, that the lent list is too short for them, or a refusal:
+// the table's or the first message's, or the second message's.
+pub enum CompareAnswer {
+    Done { count: usize },
+    Short,
+    Refused { why: Refusal, place: usize },
+    OtherRefused { why: Refusal, place: usize },
+}

@@ -25,7 +25,12 @@ use Rattle.desk.specs.declared.FindAnswer.{FindAnswer}
 use Rattle.desk.specs.declared.FindAnswer.the-variants.{Found as AtPath, NoItem, Absent, Refused as NotFound}
 use Rattle.desk.specs.Path.{findSays}
 use Rattle.desk.specs.Path as path
-use Rattle.exports.specs.Calls.{Told, countOf, Counted, Read, Wrote, whichOf, yesOf, Asked, firstOf, secondOf, atOf, Took, Found}
+use Rattle.desk.specs.declared.CompareAnswer.{CompareAnswer}
+use Rattle.desk.specs.declared.CompareAnswer.the-variants.{Done as AllPairs, Short, Refused as NotCompared, OtherRefused}
+use Rattle.desk.specs.Differ.{Answered, compareSays}
+use Rattle.desk.specs.Differ as differ
+use Rattle.compare.specs.Promise.{Compares}
+use Rattle.exports.specs.Calls.{Told, countOf, Counted, Read, Wrote, whichOf, yesOf, Asked, firstOf, secondOf, atOf, Took, Found, Compared}
 
 -- ---- the check
 
@@ -116,3 +121,22 @@ module _ {a r : FindAnswer} (e : r ≡ a) where
   pub find-refused : {w : Refusal} {p n : ℕ} → r ≡ NotFound w p → n ≡ refusalNumber w → Found a n p 0 0
   unfolding findSays numbered path.firstOf path.secondOf
   find-refused g h = rw (← e, g) (record { told = record { number = h; place = refl }; first = refl; second = refl })
+
+-- ---- two messages side by side
+
+module _ {w : Answered} {list left : List ℕ} {r : CompareAnswer} (h : Compares w list r left) where
+  pub compare-done : {n : ℕ} → r ≡ AllPairs n → Compared w list 0 0 0 n left
+  unfolding compareSays done differ.whichOf differ.countOf
+  compare-done g = record { told = rw (sym (h .answered) ∙ g) (record { number = refl; place = refl }); which = rw (sym (h .answered) ∙ g); count = rw (sym (h .answered) ∙ g); listed = h .listed }
+
+  pub compare-short : r ≡ Short → Compared w list 15 0 0 0 left
+  unfolding compareSays differ.whichOf differ.countOf
+  compare-short g = record { told = rw (sym (h .answered) ∙ g) (record { number = refl; place = refl }); which = rw (sym (h .answered) ∙ g); count = rw (sym (h .answered) ∙ g); listed = h .listed }
+
+  pub compare-refused : {e : Refusal} {p n : ℕ} → r ≡ NotCompared e p → n ≡ refusalNumber e → Compared w list n p 0 0 left
+  unfolding compareSays numbered differ.whichOf differ.countOf
+  compare-refused g k = record { told = rw (sym (h .answered) ∙ g) (record { number = k; place = refl }); which = rw (sym (h .answered) ∙ g); count = rw (sym (h .answered) ∙ g); listed = h .listed }
+
+  pub compare-other : {e : Refusal} {p n : ℕ} → r ≡ OtherRefused e p → n ≡ refusalNumber e → Compared w list n p 1 0 left
+  unfolding compareSays numbered differ.whichOf differ.countOf
+  compare-other g k = record { told = rw (sym (h .answered) ∙ g) (record { number = k; place = refl }); which = rw (sym (h .answered) ∙ g); count = rw (sym (h .answered) ∙ g); listed = h .listed }

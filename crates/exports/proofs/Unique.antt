@@ -5,7 +5,7 @@ use mathlib.Core.List.{List}
 use Prim.Native.Nat.{ℕ}
 use native.Mathlib.Omega.{arith}
 use lib.ListN.{length, length-drop}
-use Rattle.exports.specs.Unique.{OneTold, OneRead, OneWrote, OneAsked, OneFedCall, OneTook, OneFound}
+use Rattle.exports.specs.Unique.{OneTold, OneRead, OneWrote, OneAsked, OneFedCall, OneTook, OneFound, OneCompared}
 
 -- two that equal a third
 alike : {A : Type 0} {a x y : A} → x ≡ a → y ≡ a → x ≡ y
@@ -65,4 +65,13 @@ one-found a x y h k = λ i. (
   alike (h .told .place) (k .told .place) i,
   alike (h .first) (k .first) i,
   alike (h .second) (k .second) i,
+)
+
+pub one-compared : OneCompared
+one-compared w list x y h k = λ i. (
+  alike (h .told .number) (k .told .number) i,
+  alike (h .told .place) (k .told .place) i,
+  alike (h .which) (k .which) i,
+  alike (h .count) (k .count) i,
+  alike (h .listed) (k .listed) i,
 )

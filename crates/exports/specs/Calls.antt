@@ -16,6 +16,8 @@ use Rattle.accumulator.specs.Feeding.{Lent}
 use Rattle.desk.specs.declared.FindAnswer.{FindAnswer}
 use Rattle.desk.specs.Path.{findSays}
 use Rattle.desk.specs.Path as path
+use Rattle.desk.specs.Differ.{Answered, compareAnswer, listAfter, compareSays}
+use Rattle.desk.specs.Differ as differ
 
 -- document 01's number is returned, and the place left
 pub record Told (n : Numbered) (r p : ℕ) : Type 0 where
@@ -92,3 +94,9 @@ pub record Found (a : FindAnswer) (r p x y : ℕ) : Type 0 where
   pub told : Told (findSays a) r p
   pub first : x ≡ path.firstOf a
   pub second : y ≡ path.secondOf a
+
+pub record Compared (w : Answered) (list : List ℕ) (r p t n : ℕ) (list′ : List ℕ) : Type 0 where
+  pub told : Told (compareSays (compareAnswer w list)) r p
+  pub which : t ≡ differ.whichOf (compareAnswer w list)
+  pub count : n ≡ differ.countOf (compareAnswer w list)
+  pub listed : list′ ≡ listAfter w list

@@ -9,7 +9,8 @@ use Rattle.wire.specs.Answers.{Numbered, Form}
 use Rattle.laws.specs.Unique.{Unique}
 use Rattle.accumulator.specs.Feeding.{Lent}
 use Rattle.desk.specs.declared.FindAnswer.{FindAnswer}
-use Rattle.exports.specs.Calls.{Told, Read, Wrote, Asked, Fed, Took, Found}
+use Rattle.desk.specs.Differ.{Answered}
+use Rattle.exports.specs.Calls.{Told, Read, Wrote, Asked, Fed, Took, Found, Compared}
 
 abbrev pub OneTold : Type 0
 OneTold = (n : Numbered) → Unique (λ (x : ℕ × ℕ). Told n (x .0) (x .1))
@@ -31,3 +32,6 @@ OneTook = (t : TakeAnswer) (before : ℕ) → Unique (λ (x : ℕ × ℕ × ℕ 
 
 abbrev pub OneFound : Type 0
 OneFound = (a : FindAnswer) → Unique (λ (x : ℕ × ℕ × ℕ × ℕ). Found a (x .0) (x .1) (x .2) (x .3))
+
+abbrev pub OneCompared : Type 0
+OneCompared = (w : Answered) (list : List ℕ) → Unique (λ (x : ℕ × ℕ × ℕ × ℕ × List ℕ). Compared w list (x .0) (x .1) (x .2) (x .3) (x .4))

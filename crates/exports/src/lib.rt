@@ -1,4 +1,5 @@
 // The static library for C and Rust: each public call over plain numbers and slices, as include/reystavem.h declares it.
+use desk::CompareAnswer;
 use desk::FindAnswer;
 use wire::AskAnswer;
 use wire::Checked;
@@ -10,7 +11,8 @@ ghost use Rattle.wire.specs.Table.{check};
 ghost use Rattle.wire.specs.Answers.{checkSays, reads, readsStrict, takes, writes, asks};
 ghost use Rattle.accumulator.specs.Feeding.{feedLent};
 ghost use Rattle.desk.specs.Path.{finds};
-ghost use Rattle.exports.specs.Calls.{Told, Counted, Read, Wrote, Asked, Fed, Took, Found};
+ghost use Rattle.desk.specs.Differ.{compares};
+ghost use Rattle.exports.specs.Calls.{Told, Counted, Read, Wrote, Asked, Fed, Took, Found, Compared};
 
 #[no_mangle]
 pub extern "C" fn reystavem_check(table: &[u8], place: &mut u64) -> u64
@@ -231,6 +233,40 @@ pub extern "C" fn reystavem_find(
         }
         FindAnswer::Refused { why, place: at } => {
             *place = at as u64;
+            numbers::refusal(why)
+        }
+    }
+}
+
+#[no_mangle]
+pub extern "C" fn reystavem_compare(
+    table: &[u8],
+    one: &[u8],
+    other: &[u8],
+    list: &mut [u64],
+    place: &mut u64,
+    which: &mut u64,
+    count: &mut u64,
+) -> u64
+    ensures { λ r. ⌜ Compared (compares (now (table .entry)) (now (one .entry)) (now (other .entry))) (now (list .entry)) r (now (place .exit)) (now (which .exit)) (now (count .exit)) (now (list .exit)) ⌝ }
+{
+    let got = compare::compare(table, one, other, list);
+    *place = 0;
+    *which = 0;
+    *count = 0;
+    match got {
+        CompareAnswer::Done { count: pairs } => {
+            *count = pairs as u64;
+            0
+        }
+        CompareAnswer::Short => numbers::SHORT_LIST,
+        CompareAnswer::Refused { why, place: at } => {
+            *place = at as u64;
+            numbers::refusal(why)
+        }
+        CompareAnswer::OtherRefused { why, place: at } => {
+            *place = at as u64;
+            *which = 1;
             numbers::refusal(why)
         }
     }

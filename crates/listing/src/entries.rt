@@ -1,11 +1,10 @@
-// A message's entries, each on a line, indented as the shape is.
-use crate::names::say_kind;
-use crate::names::say_position;
+// A message's entries: all of them, each on a line and indented as the shape is, or only those that differ from another message's.
+use crate::line::Made;
+use crate::line::say_entry;
 use crate::parts::child;
 use crate::tree::say_bad;
-use crate::value::say_value;
-use say::front;
-use say::indent;
+use crate::way::WORDS;
+use crate::way::keep;
 use say::say;
 use say::say_bytes;
 use say::say_why;
@@ -19,13 +18,6 @@ ghost use Rattle.wire.specs.Shape.{depth as depthOf};
 ghost use Rattle.wire.specs.Table.{nodeAt, recordOf};
 ghost use Rattle.wire.specs.Answers.{roomOf};
 ghost use Rattle.laws.specs.Tables.{nodeCount, nodeShape, GoodTable};
-
-// What a reading left to show: so many entries, whether their bytes too, and where the last one's end.
-pub struct Made {
-    pub count: usize,
-    pub bytes: bool,
-    pub end: usize,
-}
 
 // What follows an item: rounds over the children from one position up to another.
 struct Span {
@@ -66,39 +58,18 @@ fn span_of(number: u8, first: u64, width: usize) -> Span
     }
 }
 
-// The bytes from one place up to another; none where there are no such.
-fn between<'a>(message: &'a [u8], from: usize, to: usize) -> &'a [u8] {
-    if to <= from {
-        return &message[0..0];
-    }
-    front(tail::from(message, from), to - from)
-}
-
-// The place of the item of the entry `at`, and its own bytes: those up to the next item's place, or to where the reading ended.
-fn say_own(words: &[u64], made: Made, message: &[u8], at: usize)
-    requires { ⌜ (at < made .count) × (made .count ≤ roomOf (now words)) ⌝ }
-{
-    if made.bytes {
-        let from = entry::place(words, at);
-        let mut to = made.end;
-        let next = at + 1;
-        if next < made.count {
-            to = entry::place(words, next) as usize;
-        }
-        say_with(b", at byte #:", from);
-        say_bytes(between(message, from as usize, to));
-    }
-}
-
 // The item of the entry `at` and those below it, and the entry that comes next.
 fn show_item(
     table: &[u8],
     l: Layout,
     node: usize,
+    way: &mut [u64; WORDS],
     depth: usize,
     words: &[u64],
     made: Made,
     message: &[u8],
+    lined: &[u64],
+    other: &[u8],
     at: usize,
 ) -> usize
     requires { ⌜ GoodTable (now table) l ⌝ }
@@ -108,36 +79,59 @@ fn show_item(
 {
     let number = table::kind_at(table, l, node);
     let width = table::child_count(table, l, node);
+    say_entry(
+        number,
+        width,
+        way,
+        depth,
+        words,
+        made,
+        message,
+        lined,
+        other,
+        at,
+    );
     let first = entry::first(words, at);
-    let second = entry::second(words, at);
-    say_kind(number);
-    say_value(number, width, first, second, message);
-    say_own(words, made, message, at);
-    say(b"\n");
-    let way = span_of(number, first, width);
-    show_rounds(table, l, node, way, depth + 1, words, made, message, at + 1)
+    let span = span_of(number, first, width);
+    show_rounds(
+        table,
+        l,
+        node,
+        span,
+        way,
+        depth,
+        words,
+        made,
+        message,
+        lined,
+        other,
+        at + 1,
+    )
 }
 
 fn show_rounds(
     table: &[u8],
     l: Layout,
     node: usize,
-    way: Span,
+    span: Span,
+    way: &mut [u64; WORDS],
     depth: usize,
     words: &[u64],
     made: Made,
     message: &[u8],
+    lined: &[u64],
+    other: &[u8],
     at: usize,
 ) -> usize
     requires { ⌜ GoodTable (now table) l ⌝ }
-    requires { ⌜ (node < l .nodes) × (depth + depthOf (nodeShape (now table) l node) ≤ 257) ⌝ }
-    requires { ⌜ way .to ≤ nodeCount (nodeAt (now table) (recordOf l node)) ⌝ }
+    requires { ⌜ (node < l .nodes) × (depth + depthOf (nodeShape (now table) l node) ≤ 256) ⌝ }
+    requires { ⌜ span .to ≤ nodeCount (nodeAt (now table) (recordOf l node)) ⌝ }
     requires { ⌜ (at ≤ made .count) × (made .count ≤ roomOf (now words)) ⌝ }
     ensures { λ r. ⌜ r ≤ made .count ⌝ }
 {
     let mut next = at;
     let mut round = 0;
-    while round < way.rounds {
+    while round < span.rounds {
         if made.count <= next {
             return next;
         }
@@ -145,13 +139,16 @@ fn show_rounds(
             table,
             l,
             node,
-            way.from,
-            way.to,
+            span.from,
+            span.to,
             round,
+            way,
             depth,
             words,
             made,
             message,
+            lined,
+            other,
             next,
         );
         round += 1;
@@ -166,14 +163,17 @@ fn show_round(
     from: usize,
     to: usize,
     round: u64,
+    way: &mut [u64; WORDS],
     depth: usize,
     words: &[u64],
     made: Made,
     message: &[u8],
+    lined: &[u64],
+    other: &[u8],
     at: usize,
 ) -> usize
     requires { ⌜ GoodTable (now table) l ⌝ }
-    requires { ⌜ (node < l .nodes) × (depth + depthOf (nodeShape (now table) l node) ≤ 257) ⌝ }
+    requires { ⌜ (node < l .nodes) × (depth + depthOf (nodeShape (now table) l node) ≤ 256) ⌝ }
     requires { ⌜ to ≤ nodeCount (nodeAt (now table) (recordOf l node)) ⌝ }
     requires { ⌜ (at ≤ made .count) × (made .count ≤ roomOf (now words)) ⌝ }
     ensures { λ r. ⌜ r ≤ made .count ⌝ }
@@ -185,25 +185,55 @@ fn show_round(
         if made.count <= next {
             return next;
         }
-        indent(depth);
-        say_position(number, round, k as u64);
-        say(b": ");
+        keep(way, depth, number, round, k as u64);
         let c = child(table, l, node, k);
-        next = show_item(table, l, c, depth, words, made, message, next);
+        next = show_item(
+            table,
+            l,
+            c,
+            way,
+            depth + 1,
+            words,
+            made,
+            message,
+            lined,
+            other,
+            next,
+        );
         k += 1;
     }
     next
 }
 
-// The entries that were made, if there are so many words.
-fn show_entries(table: &[u8], l: Layout, words: &[u64], made: Made, message: &[u8])
+// The entries that were made, if there are so many words: all, if no other message's are lined up with them.
+fn show_entries(
+    table: &[u8],
+    l: Layout,
+    words: &[u64],
+    made: Made,
+    message: &[u8],
+    lined: &[u64],
+    other: &[u8],
+)
     requires { ⌜ GoodTable (now table) l ⌝ }
 {
     if 0 < made.count {
         if made.count <= entry::room(words.len()) {
             let root = l.root;
-            say(b"root: ");
-            show_item(table, l, root, 0, words, made, message, 0);
+            let mut way = [0u64; WORDS];
+            show_item(
+                table,
+                l,
+                root,
+                &mut way,
+                0,
+                words,
+                made,
+                message,
+                lined,
+                other,
+                0,
+            );
         }
     }
 }
@@ -299,7 +329,15 @@ fn show_made(
     match table::check(table) {
         Checked::Bad { why, place } => say_bad(why, place),
         Checked::Good { layout } => {
-            show_entries(table, layout, store, made, message);
+            show_entries(
+                table,
+                layout,
+                store,
+                made,
+                message,
+                &store[0..0],
+                &message[0..0],
+            );
             show_end(answer, rest);
         }
     }
@@ -330,4 +368,20 @@ pub fn show_strictly(
 ) {
     let made = made_strictly(store, strict, plain);
     show_made(table, message, store, made, strict, rest);
+}
+
+// The items in which a message differs from another, each under its way: the entries that were made, and the other's lined up
+// with them.
+pub fn show_changes(table: &[u8], message: &[u8], words: &[u64], lined: &[u64], other: &[u8]) {
+    match table::check(table) {
+        Checked::Bad { why, place } => say_bad(why, place),
+        Checked::Good { layout } => {
+            let made = Made {
+                count: entry::room(words.len()),
+                bytes: false,
+                end: 0,
+            };
+            show_entries(table, layout, words, made, message, lined, other);
+        }
+    }
 }

@@ -15,7 +15,7 @@ pub fn say_kind(number: u8) {
 }
 
 // Which name a kind's child has: a map's value the last of six, a child of another kind its parent's.
-fn name_of(number: u8, k: u64) -> usize {
+pub fn name_of(number: u8, k: u64) -> usize {
     match number {
         17 => (k % 2 * 3 + 2) as usize,
         15 | 16 | 18 | 19 => (number - 15) as usize,
@@ -29,9 +29,13 @@ pub fn say_child(number: u8, k: u64) {
     say_with(part(names, name_of(number, k)), k);
 }
 
-// The same in a message, where a sequence's elements and a map's pairs are counted too.
-pub fn say_position(number: u8, round: u64, k: u64) {
+// The number that a child's position has in a message: there a sequence's elements and a map's pairs are counted, by rounds.
+pub fn count_of(number: u8, round: u64, k: u64) -> u64 {
+    if number < 18 { round } else { k }
+}
+
+// A position in a message, by its name and its number.
+pub fn say_position(name: usize, n: u64) {
     let names = b"content;element #;key #;field #;variant #;value #";
-    let n = if number < 18 { round } else { k };
-    say_with(part(names, name_of(number, k)), n);
+    say_with(part(names, name), n);
 }

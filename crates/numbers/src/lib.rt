@@ -33,6 +33,9 @@ pub const NO_ITEM: u64 = 13;
 
 pub const ABSENT: u64 = 14;
 
+// The list that a comparison was lent is too short for its pairs.
+pub const SHORT_LIST: u64 = 15;
+
 // 0 for the old table, 1 for the new one.
 pub fn side(side: Side) -> u64
     ensures { λ r. ⌜ r ≡ sideNumber side ⌝ }

@@ -22,3 +22,4 @@ pub mod StrictOnly
 pub mod RunsAgain
 pub mod ByteForByte
 pub mod Finding
+pub mod Comparing

@@ -1,4 +1,4 @@
--- What the demands promise of the public answers: of tables of both forms, of a new table beside an old one, of the entries' places, of what is written and read back and when it comes back byte for byte, of the rest, of a skim, of a strict reading, and of one item by its path.
+-- What the demands promise of the public answers: of tables of both forms, of a new table beside an old one, of the entries' places, of what is written and read back and when it comes back byte for byte, of the rest, of a skim, of a strict reading, of one item by its path, and of two messages side by side.
 pub mod Tables
 pub mod OldNew
 pub mod Places
@@ -8,6 +8,7 @@ pub mod Skim
 pub mod Strict
 pub mod ByteForByte
 pub mod Finding
+pub mod Comparing
 -- Laws that these are proved by, which are no promises.
 pub mod Shapes
 pub mod Telling

@@ -26,7 +26,7 @@ pub enum Entered {
 // ---- an item's own bytes
 
 // A variant's number is one of the table's.
-fn known(count: usize, got: Item) -> Item
+pub fn known(count: usize, got: Item) -> Item
     ensures { λ r. ⌜ r ≡ knownOf count got ⌝ }
 {
     let Item::Took { own } = got else {

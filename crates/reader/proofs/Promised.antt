@@ -94,12 +94,17 @@ module _ (table message : List ℕ) {a : ReadAnswer} where
   unfolding skims laid
   skims-whole room store g = g .answered ∙ rw (zero-add (length (readBy false (check table) table room message .made)))
 
--- a row, which is one round of itself
-pub skims-row : (table : List ℕ) (l : Layout) (from n : ℕ) (x : Spot) (room made : ℕ) (store : List ℕ) {a : ReadAnswer} {st : List ℕ}
-    → Gives (lay room (roundsStep (reading (headBy false)) table l 1 false from n x) made store) a st
-    → a ≡ answerBehind made (fit (room - made) (rowStep (reading head) table l from n x))
-unfolding roundsStep under times headBy judged lay laid answerBehind
-skims-row table l from n x room made store g = g .answered ∙ ap (λ r. answerBehind made (fit (room - made) r)) (then-nothing (rowStep (reading head) table l from n) x)
+-- a row so many times over, and once
+module _ (table : List ℕ) (l : Layout) (from n : ℕ) (x : Spot) (room made : ℕ) {a : ReadAnswer} where
+  pub skims-rounds : (c : ℕ) (store : List ℕ) {st : List ℕ} → Gives (lay room (roundsStep (reading (headBy false)) table l c false from n x) made store) a st
+      → a ≡ answerBehind made (fit (room - made) (roundsStep (reading head) table l c false from n x))
+  unfolding headBy judged lay laid answerBehind
+  skims-rounds c store g = g .answered
+
+  pub skims-row : a ≡ answerBehind made (fit (room - made) (roundsStep (reading head) table l 1 false from n x))
+      → a ≡ answerBehind made (fit (room - made) (rowStep (reading head) table l from n x))
+  unfolding roundsStep under times
+  skims-row g = g ∙ ap (λ r. answerBehind made (fit (room - made) r)) (then-nothing (rowStep (reading head) table l from n) x)
 
 -- ---- the rest
 

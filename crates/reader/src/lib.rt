@@ -5,6 +5,7 @@ use wire::Checked;
 use wire::Layout;
 use wire::ReadAnswer;
 use wire::Refusal;
+ghost use mathlib.Core.Bool.{false};
 ghost use mathlib.Core.Path.{_≡_};
 ghost use Prim.Native.Nat.{_+_, _-_, _^_, _<_, _≤_};
 ghost use lib.ListN.{length};
@@ -378,8 +379,45 @@ pub fn skim(table: &[u8], message: &[u8], room: usize) -> ReadAnswer
     read_with(false, table, message, room, &mut words[0..0])
 }
 
-// The items of a row of children's numbers, skimmed: where the row ends or why it is refused, and the entries made with those
-// before. It is for questions that go through a message by themselves.
+// The items of a row of children's numbers, so many times over, skimmed: where they end or why they are refused, and the entries
+// made with those before. It is for questions that go through a message by themselves.
+pub fn skim_rounds(
+    table: &[u8],
+    l: Layout,
+    node: usize,
+    rounds: u64,
+    from: usize,
+    width: usize,
+    part: &[u8],
+    place: usize,
+    room: usize,
+    made: usize,
+) -> ReadAnswer
+    requires { ⌜ GoodTable (now table) l ⌝ }
+    requires { ⌜ node ≤ l .nodes ⌝ }
+    requires { ⌜ Falls (now table) from width node ⌝ }
+    requires { ⌜ place + length (now part) < 2 ^ 64 ⌝ }
+    ensures { λ r. ⌜ r ≡ answerBehind made (fit (room - made) (roundsStep (reading head) (now (table .entry)) l rounds false from width (spot (now (part .entry)) place))) ⌝ }
+{
+    let mut words: [u64; 1] = [0; 1];
+    read_rounds(
+        false,
+        table,
+        l,
+        node,
+        rounds,
+        false,
+        from,
+        width,
+        part,
+        place,
+        room,
+        &mut words[0..0],
+        made,
+    )
+}
+
+// The same, once.
 pub fn skim_row(
     table: &[u8],
     l: Layout,
@@ -397,22 +435,7 @@ pub fn skim_row(
     requires { ⌜ place + length (now part) < 2 ^ 64 ⌝ }
     ensures { λ r. ⌜ r ≡ answerBehind made (fit (room - made) (rowStep (reading head) (now (table .entry)) l from width (spot (now (part .entry)) place))) ⌝ }
 {
-    let mut words: [u64; 1] = [0; 1];
-    read_rounds(
-        false,
-        table,
-        l,
-        node,
-        1,
-        false,
-        from,
-        width,
-        part,
-        place,
-        room,
-        &mut words[0..0],
-        made,
-    )
+    skim_rounds(table, l, node, 1, from, width, part, place, room, made)
 }
 
 // The unread bytes, from the same message and its answer.

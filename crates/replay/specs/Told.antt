@@ -7,7 +7,9 @@ use Rattle.wire.specs.declared.ReadAnswer.the-variants.{Done as Read, Refused a
 use Rattle.wire.specs.declared.AskAnswer.{AskAnswer}
 use Rattle.wire.specs.declared.AskAnswer.the-variants.{Says, Refused as NotAsked, ShortArea}
 use Rattle.wire.specs.Answers.{sideNumber, yesNumber, Numbered}
-use Rattle.replay.specs.declared.compare.Told.{Told}
+use Rattle.desk.specs.declared.CompareAnswer.{CompareAnswer}
+use Rattle.desk.specs.declared.CompareAnswer.the-variants.{Done as Compared, Short, Refused as NotCompared, OtherRefused}
+use Rattle.replay.specs.declared.answers.Told.{Told}
 
 -- document 01's number and place, and a third number
 pub record Tells (n : Numbered) (third : ℕ) (r : Told) : Type 0 where
@@ -25,3 +27,10 @@ unfoldable pub which : AskAnswer → ℕ
 which (Says y) = yesNumber y
 which (NotAsked t e i) = sideNumber t
 which ShortArea = 0
+
+-- how many pairs a comparison has; on a refusal 1 for the second message, else 0
+unfoldable pub pairsOrWhich : CompareAnswer → ℕ
+pairsOrWhich (Compared n) = n
+pairsOrWhich Short = 0
+pairsOrWhich (NotCompared e p) = 0
+pairsOrWhich (OtherRefused e p) = 1

@@ -1,8 +1,8 @@
 // Replays recorded answers of the oracle: asks the same again, compares the whole of each answer,
 // and writes a line for each kind of request. HOW.md says how the lists were made.
-mod compare;
+mod answers;
 
-use compare::Kind;
+use answers::Kind;
 use libc::STDOUT_FILENO;
 use recorded::field;
 use recorded::memory;
@@ -18,11 +18,11 @@ struct Tally {
 
 // Whether a record agrees; says so if it doesn't.
 fn try_record(kind: Kind, record: &[u8], which: u64) -> bool {
-    if !field::is_whole(record, compare::fields(kind)) {
+    if !field::is_whole(record, answers::fields(kind)) {
         say_with(b"record # is not one of this kind\n", which);
         return false;
     }
-    if !compare::agrees(kind, record) {
+    if !answers::agrees(kind, record) {
         say_with(b"record # differs\n", which);
         return false;
     }
@@ -92,4 +92,5 @@ fn main() {
     replay(Kind::Feed, b"feeding");
     replay(Kind::Take, b"taking");
     replay(Kind::Find, b"finding");
+    replay(Kind::Compare, b"comparing");
 }

@@ -1,4 +1,5 @@
-// What a planner runs: shelf table, read, bytes, read-strict, find, append, frames and write, each over files. Without such words it says how to use it.
+// What a planner runs: shelf table, read, bytes, read-strict, find, compare, changes, append, frames and write, each over files. Without such words it says how to use it.
+mod comparing;
 mod files;
 mod finding;
 mod frames;
@@ -12,6 +13,8 @@ enum Verb {
     Bytes,
     ReadStrict,
     Find,
+    Compare,
+    Changes,
     Append,
     Frames,
     Write,
@@ -25,6 +28,8 @@ fn say_usage() {
         shelf bytes TABLE MESSAGE           the same, each entry with its place and its bytes\n\
         shelf read-strict TABLE MESSAGE     the same, up to the first item that isn't in its shortest form\n\
         shelf find TABLE MESSAGE 0 2 1 ...  the one item at a path of positions, 0 to enter an option\n\
+        shelf compare TABLE ONE OTHER       where two messages differ: the places of each such item in both\n\
+        shelf changes TABLE ONE OTHER       the same in words: each such item with its path, in both messages\n\
         shelf append OLD NEW                does the new table only append to the old one?\n\
         shelf frames FILE                   the messages in a recorded stream of frames\n\
         shelf write TABLE VALUES POOL OUT   writes the message of a value list\n",
@@ -47,6 +52,12 @@ fn verb_of(word: &[u8]) -> Verb {
     if check::same(word, b"find") {
         return Verb::Find;
     }
+    if check::same(word, b"compare") {
+        return Verb::Compare;
+    }
+    if check::same(word, b"changes") {
+        return Verb::Changes;
+    }
     if check::same(word, b"append") {
         return Verb::Append;
     }
@@ -65,6 +76,7 @@ fn fits(verb: Verb, count: usize) -> bool {
         Verb::Table | Verb::Frames => count == 3,
         Verb::Read | Verb::Bytes | Verb::ReadStrict | Verb::Append => count == 4,
         Verb::Find => 4 <= count,
+        Verb::Compare | Verb::Changes => count == 5,
         Verb::Write => count == 6,
         Verb::Unknown => false,
     }
@@ -81,7 +93,8 @@ fn run_on_new(old: &[u8]) {
     }
 }
 
-// shelf read, bytes, read-strict or find TABLE MESSAGE, or shelf write TABLE VALUES POOL OUT, with the table.
+// shelf read, bytes, read-strict or find TABLE MESSAGE, shelf compare or changes TABLE ONE OTHER, or shelf write TABLE VALUES
+// POOL OUT, with the table.
 fn run_on_file(verb: Verb, table: &[u8]) {
     let mut room = files::large_room();
     let loaded = files::load(3, &mut room);
@@ -93,6 +106,8 @@ fn run_on_file(verb: Verb, table: &[u8]) {
             Verb::Bytes => shown::read(table, &room[..len], true),
             Verb::ReadStrict => shown::read_strictly(table, &room[..len]),
             Verb::Find => finding::find(table, &room[..len]),
+            Verb::Compare => comparing::compare_with(table, &room[..len], false),
+            Verb::Changes => comparing::compare_with(table, &room[..len], true),
             _ => writing::write_values(table, &room[..len]),
         }
     }

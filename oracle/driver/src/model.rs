@@ -1,6 +1,7 @@
 //! 01's wire rules written out once more WITHOUT the crate, to find where the two differ.
 //! Nothing here is the oracle; `oracle check` compares it with the oracle line by line.
 
+use crate::compare::{Of, Pair};
 use crate::table::{self, Table};
 use crate::{Entry, ReadAnswer, Refusal};
 
@@ -284,6 +285,57 @@ pub fn find(file: &[u8], path: &[u64], message: &[u8]) -> Result<Entry, Refusal>
         return Err(Refusal { no: 13, place: 0 });
     }
     Reader { table: &table, room: 16_384, strict: false, entries: vec![] }.find(table.root, path, message, 0)
+}
+
+/// An item of a message with what is inside it.
+struct Tree<'m> {
+    /// Its first word; for texts and bytes their content.
+    value: (u64, &'m [u8]),
+    place: u64,
+    inside: Vec<Tree<'m>>,
+}
+
+fn tree<'m>(table: &Table, node: usize, left: &mut &[Entry], m: &'m [u8]) -> Tree<'m> {
+    let node = &table.nodes[node];
+    let [w0, w1, place] = left[0];
+    *left = &left[1..];
+    let value = match node.kind {
+        table::STR | table::BYTES => (0, &m[w0 as usize..(w0 + w1) as usize]),
+        _ => (w0, &m[..0]),
+    };
+    let kids = match node.kind {
+        table::OPTION | table::SEQ | table::MAP => node.kids.repeat(w0 as usize),
+        table::ENUM => vec![node.kids[w0 as usize]],
+        _ => node.kids.clone(),
+    };
+    Tree { value, place, inside: kids.iter().map(|&kid| tree(table, kid, left, m)).collect() }
+}
+
+fn differences(one: &Tree, other: &Tree, pairs: &mut Vec<Pair>) {
+    if one.value != other.value {
+        return pairs.push([one.place, other.place]);
+    }
+    for (one, other) in one.inside.iter().zip(&other.inside) {
+        differences(one, other, pairs);
+    }
+}
+
+pub fn compare(file: &[u8], one: &[u8], other: &[u8], list_words: usize) -> Result<Vec<Pair>, (Refusal, Of)> {
+    let table = Table::parse(file).map_err(|refusal| (refusal, Of::Neither))?;
+    let mut trees = vec![];
+    for (message, of) in [(one, Of::One), (other, Of::Other)] {
+        let ReadAnswer { no, place, entries, .. } = read(file, message, 49_152);
+        if no != 0 {
+            return Err((Refusal { no, place }, of));
+        }
+        trees.push(tree(&table, table.root, &mut &entries[..], message));
+    }
+    let mut pairs = vec![];
+    differences(&trees[0], &trees[1], &mut pairs);
+    if 2 * pairs.len() > list_words {
+        return Err((Refusal { no: 15, place: 0 }, Of::Neither));
+    }
+    Ok(pairs)
 }
 
 /// The shortest varint.

@@ -1,6 +1,7 @@
 //! The line protocol, see PROTOCOL.md.
 
 use crate::append::{appends, Which};
+use crate::compare::{self, Of, Pair};
 use crate::feed::{feed, ROOM};
 use crate::{find, model, read, strict, write, Entry, ReadAnswer, Refusal};
 use core::fmt::Write;
@@ -69,7 +70,17 @@ fn find_text(a: &Result<Entry, Refusal>) -> String {
     }
 }
 
-/// Answers one request line. With `from_document` the crate-free model answers R, S, W and I.
+fn compare_text(a: &Result<Vec<Pair>, (Refusal, Of)>) -> String {
+    match a {
+        Ok(pairs) => {
+            let list: Vec<String> = pairs.iter().map(|[one, other]| format!("{one:x},{other:x}")).collect();
+            format!("0 0 0 {:x} | {}", pairs.len(), if list.is_empty() { "-".into() } else { list.join(" ") })
+        }
+        Err((Refusal { no, place }, of)) => format!("{no} {place:x} {} 0 | -", u8::from(*of == Of::Other)),
+    }
+}
+
+/// Answers one request line. With `from_document` the crate-free model answers R, S, W, I and C.
 pub fn answer(line: &str, from_document: bool) -> Result<String, String> {
     let f: Vec<&str> = line.split_ascii_whitespace().collect();
     match f[..] {
@@ -117,6 +128,11 @@ pub fn answer(line: &str, from_document: bool) -> Result<String, String> {
         ["I", table, path, message] => {
             let find = if from_document { model::find } else { find::find };
             Ok(find_text(&find(&unhex(table)?, &words(path)?, &unhex(message)?)))
+        }
+        ["C", table, one, other, list_words] => {
+            let compare = if from_document { model::compare } else { compare::compare };
+            let list_words = number(list_words)? as usize;
+            Ok(compare_text(&compare(&unhex(table)?, &unhex(one)?, &unhex(other)?, list_words)))
         }
         _ => Err("unknown request".into()),
     }

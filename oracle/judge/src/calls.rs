@@ -1,10 +1,11 @@
 //! One request to both: the library's answer with all lent memory, and the oracle's.
 use crate::area::Area;
 use oracle_driver::append::{appends, Which};
+use oracle_driver::compare::{compare, Of};
 use oracle_driver::feed::{feed, ROOM};
 use oracle_driver::proto::{number, unhex, words};
 use oracle_driver::{find, read, strict, table, write, ReadAnswer, Refusal, WORDS};
-use reystavem::{Accumulator, Fed, Read, ReadRefused, Refused, Side};
+use reystavem::{Accumulator, Fed, Message, Read, ReadRefused, Refused, Side};
 use std::fmt::Debug;
 
 /// What differs, in words.
@@ -179,6 +180,56 @@ fn find_in_c(table: &[u8], path: &[u64], message: &[u8]) -> (u64, [u64; 3]) {
     (number, told)
 }
 
+/// With a list of so many words; and what the request is counted as.
+pub fn comparing(table: &[u8], one: &[u8], other: &[u8], words: usize) -> (&'static str, Result<(), Differs>) {
+    let right = compare(table, one, other, words);
+    let kind = match &right {
+        Ok(pairs) if pairs.is_empty() => "comparing the same",
+        Ok(_) => "comparing",
+        Err((Refusal { no: 15, .. }, _)) => "comparing with a short list",
+        Err(_) => "comparing refused",
+    };
+    let before = lent(words);
+    let mut after = before.clone();
+    if let Ok(pairs) = &right {
+        after[..2 * pairs.len()].copy_from_slice(pairs.as_flattened());
+    }
+    let right = right.map(|pairs| pairs.len()).map_err(|(Refusal { no, place }, of)| {
+        let message = match of {
+            Of::Neither => None,
+            Of::One => Some(Message::One),
+            Of::Other => Some(Message::Other),
+        };
+        (message, (no, place))
+    });
+    let in_c = match right {
+        Ok(count) => (0, [0, 0, count as u64]),
+        Err((message, (no, place))) => (no.into(), [place as u64, (message == Some(Message::Other)).into(), 0]),
+    };
+    let (mut list, mut list_in_c) = (before.clone(), before);
+    let ours = reystavem::compare(table, one, other, &mut list);
+    let ours = ours.map_err(|(message, refused)| (message, numbered(refused)));
+    let outcome = same("answer", ours, right).and_then(|()| same("list", &list, &after)).and_then(|()| {
+        let ours = compare_in_c(table, one, other, &mut list_in_c);
+        same("number, place, which and count in C", ours, in_c)?;
+        same("list in C", list_in_c, after)
+    });
+    (kind, outcome)
+}
+
+/// The number, and the three that the header has besides. The bindings hide some of them.
+fn compare_in_c(table: &[u8], one: &[u8], other: &[u8], list: &mut [u64]) -> (u64, [u64; 3]) {
+    let mut told = [u64::MAX; 3];
+    let [place, which, count] = &mut told;
+    let (table_len, one_len, other_len, words) = (table.len(), one.len(), other.len(), list.len());
+    let (table, one, other, list) = (table.as_ptr(), one.as_ptr(), other.as_ptr(), list.as_mut_ptr());
+    // SAFETY: each slice is lent with its own length; the numbers are ours.
+    let number = unsafe {
+        reystavem_compare(table, table_len, one, one_len, other, other_len, list, words, place, which, count)
+    };
+    (number, told)
+}
+
 extern "C" {
     fn reystavem_append(
         old_table: *const u8,
@@ -210,6 +261,19 @@ extern "C" {
         place: *mut u64,
         first: *mut u64,
         second: *mut u64,
+    ) -> u64;
+    fn reystavem_compare(
+        table: *const u8,
+        table_len: usize,
+        one: *const u8,
+        one_len: usize,
+        other: *const u8,
+        other_len: usize,
+        list: *mut u64,
+        list_words: usize,
+        place: *mut u64,
+        which: *mut u64,
+        count: *mut u64,
     ) -> u64;
 }
 
@@ -251,6 +315,9 @@ fn parsed(line: &str, area: &mut Area) -> Result<(&'static str, Result<(), Diffe
         }
         ["T", kind, message, place] => ("taking", take(number(kind)?, &unhex(message)?, number(place)? as usize)),
         ["I", table, path, message] => finding(&unhex(table)?, &words(path)?, &unhex(message)?),
+        ["C", table, one, other, words] => {
+            comparing(&unhex(table)?, &unhex(one)?, &unhex(other)?, number(words)? as usize)
+        }
         _ => return Err("unknown request".into()),
     })
 }

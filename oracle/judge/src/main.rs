@@ -1,10 +1,11 @@
 //! Holds every answer of the proved static library against the oracle: number, place, count, every
 //! word of the store, the rest, every byte of the output and of the work area, the accumulator's array
-//! and message, an item's entry.
+//! and message, an item's entry, every word of the list of differences.
 //!
 //!   gen SEED COUNT | judge           request lines from stdin (PROTOCOL.md)
 //!   gen SEED COUNT strict | judge    strict reads alone
 //!   gen SEED COUNT find | judge      finds alone
+//!   gen SEED COUNT compare | judge   comparisons alone
 //!   judge short                      every message of up to two bytes, for each leaf kind and small tables
 //!
 //! Prints how many requests of each kind were compared, and each difference; exits with 1 if there was one.

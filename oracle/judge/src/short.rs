@@ -1,6 +1,6 @@
 //! Every message of up to two bytes, for each leaf kind and a set of small tables, with stores from no
-//! entry to more than enough, and words over, plainly and strictly; every taking from every place; and
-//! what short paths lead to.
+//! entry to more than enough, and words over, plainly and strictly; every taking from every place; what
+//! short paths lead to; and every two messages of up to one byte beside each other.
 use crate::{calls, Tally};
 use oracle_driver::table::Table;
 
@@ -65,6 +65,15 @@ pub fn run() -> Tally {
             for place in 0..=message.len() + 1 {
                 let outcome = calls::take(kind, &message, place);
                 tally.note("taking", outcome, || format!("kind {kind}, {message:02x?} at {place}"));
+            }
+        }
+    }
+    let short: Vec<Vec<u8>> = messages().take_while(|message| message.len() < 2).collect();
+    for table in &tables {
+        for one in &short {
+            for other in &short {
+                let (kind, outcome) = calls::comparing(table, one, other, 3);
+                tally.note(kind, outcome, || format!("{table:02x?} {one:02x?} {other:02x?}"));
             }
         }
     }

@@ -4,6 +4,7 @@
 //!   speed leaves     varints and texts
 //!   speed messages   reading and writing
 //!   speed paths      one field by its path, beside a full read
+//!   speed pairs      two messages side by side, beside a read of one
 //!   speed question   the append question on shapes that grow by doubling
 //!   speed warehouse  tables of the second form: small, full, and the worst pairs; the last takes minutes
 //!   speed stack      how deep the stack is under the longest chain
@@ -12,6 +13,7 @@
 mod frames;
 mod leaves;
 mod messages;
+mod pairs;
 mod paths;
 mod question;
 mod stack;
@@ -24,6 +26,7 @@ fn main() {
         ("leaves", leaves::report as fn()),
         ("messages", messages::report),
         ("paths", paths::report),
+        ("pairs", pairs::report),
         ("question", question::report),
         ("warehouse", warehouse::report),
         ("stack", stack::report),

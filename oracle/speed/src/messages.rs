@@ -8,14 +8,22 @@ use serde::{Deserialize, Serialize};
 use std::hint::black_box;
 
 #[derive(Serialize, Deserialize, Clone, Copy)]
-struct Stock {
+pub struct Stock {
     store: u32,
     product: u64,
-    count: i32,
+    pub count: i32,
 }
 
 fn stock(i: u64) -> Stock {
     Stock { store: 300 + i as u32, product: 5 + i * 1_000_003, count: -2 - i as i32 }
+}
+
+/// A table of a sequence of T, and a value of 1,000 of them.
+pub fn stocks() -> (Table, Vec<Stock>) {
+    let mut table = Table::parse(reystavem::samples::TABLE_T).expect("a good table");
+    table.nodes.push(Node { kind: SEQ, kids: vec![3] });
+    table.root = 4;
+    (table, (0..1000).map(stock).collect())
 }
 
 /// A table of 200 numbers, and a value of it.
@@ -107,15 +115,12 @@ fn read_as<T: DeserializeOwned>(message: &[u8]) {
 
 pub fn report() {
     let one = stock(0);
-    let many: Vec<Stock> = (0..1000).map(stock).collect();
+    let (sequence, many) = stocks();
     let (fields, wide) = fields();
     let ascii: String = (0..65536).map(|i| (b'a' + (i % 26) as u8) as char).collect();
     let mixed: String = "Milk 3.5% — lait entier, γάλα, 牛乳 🥛; ".repeat(1300);
 
     let table_t = Table::parse(reystavem::samples::TABLE_T).expect("a good table");
-    let mut sequence = Table::parse(reystavem::samples::TABLE_T).expect("a good table");
-    sequence.nodes.push(Node { kind: SEQ, kids: vec![3] });
-    sequence.root = 4;
 
     let samples = [
         Sample {

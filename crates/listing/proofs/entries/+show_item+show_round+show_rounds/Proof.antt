@@ -14,59 +14,54 @@ use Rattle.listing.proofs.entries.+show_item+show_round+show_rounds.Lts
 use Rattle.listing.proofs.entries.show_rounds.Reads as show-rounds
 use Rattle.listing.proofs.entries.show_rounds.Kinds as show-rounds-kinds
 use Rattle.listing.proofs.entries.+show_item+show_round+show_rounds.Lts-show_rounds as show-rounds-lts
-use Rattle.listing.proofs.entries.span_of.Reads as span-of-reads
-use Rattle.listing.proofs.names.say_kind.Reads as say-kind-reads
-use Rattle.listing.proofs.names.say_position.Reads as say-position-reads
-use Rattle.listing.proofs.parts.child.Reads as child-reads
-use Rattle.listing.proofs.entries.say_own.Reads as say-own-reads
-use Rattle.listing.proofs.value.say_value.Reads as say-value-reads
-use Rattle.say.proofs.indent.Reads as indent-reads
-use Rattle.say.proofs.say.Reads as say-reads
-use Rattle.table.proofs.child_count.Reads as child-count-reads
-use Rattle.wire.specs.Answers.{roomOf}
 use Rattle.entry.proofs.first.Reads as first-reads
-use Rattle.entry.proofs.second.Reads as second-reads
+use Rattle.listing.proofs.entries.span_of.Reads as span-of-reads
+use Rattle.listing.proofs.line.say_entry.Reads as say-entry-reads
+use Rattle.listing.proofs.parts.child.Reads as child-reads
+use Rattle.listing.proofs.way.keep.Reads as keep-reads
+use Rattle.wire.specs.Answers.{roomOf}
+use Rattle.table.proofs.child_count.Reads as child-count-reads
 use Rattle.table.proofs.kind_at.Reads as kind-at-reads
 use Rattle.listing.proofs.entries.+show_item+show_round+show_rounds.{statement}
 use Rattle.listing.proofs.entries.+show_item+show_round+show_rounds.Tie.{close}
 
-abbrev μ-show-item : Measures 3 show-item-kinds.ps ℕ
+abbrev μ-show-item : Measures 6 show-item-kinds.ps ℕ
 μ-show-item κs a = a .1 .1 .0 + a .1 .1 .0 + a .1 .1 .0 + 2
 
-abbrev μ-show-round : Measures 3 show-round-kinds.ps ℕ
+abbrev μ-show-round : Measures 6 show-round-kinds.ps ℕ
 μ-show-round κs a = a .1 .1 .0 + a .1 .1 .0 + a .1 .1 .0
 
-abbrev μ-show-rounds : Measures 3 show-rounds-kinds.ps ℕ
+abbrev μ-show-rounds : Measures 6 show-rounds-kinds.ps ℕ
 μ-show-rounds κs a = a .1 .1 .0 + a .1 .1 .0 + a .1 .1 .0 + 1
 
-abbrev show-item-at : ℕ → In 3 show-item-kinds.ps
-show-item-at t = and 3 show-item-kinds.ps (is 3 show-item-kinds.ps μ-show-item t) show-item.Pre
+abbrev show-item-at : ℕ → In 6 show-item-kinds.ps
+show-item-at t = and 6 show-item-kinds.ps (is 6 show-item-kinds.ps μ-show-item t) show-item.Pre
 
-abbrev show-item-below : ℕ → In 3 show-item-kinds.ps
+abbrev show-item-below : ℕ → In 6 show-item-kinds.ps
 show-item-below t =
-    and 3 show-item-kinds.ps (falls 3 show-item-kinds.ps _<_ μ-show-item t) show-item.Pre
+    and 6 show-item-kinds.ps (falls 6 show-item-kinds.ps _<_ μ-show-item t) show-item.Pre
 
-abbrev show-round-at : ℕ → In 3 show-round-kinds.ps
+abbrev show-round-at : ℕ → In 6 show-round-kinds.ps
 show-round-at t =
-    and 3 show-round-kinds.ps (is 3 show-round-kinds.ps μ-show-round t) show-round.Pre
+    and 6 show-round-kinds.ps (is 6 show-round-kinds.ps μ-show-round t) show-round.Pre
 
-abbrev show-round-below : ℕ → In 3 show-round-kinds.ps
+abbrev show-round-below : ℕ → In 6 show-round-kinds.ps
 show-round-below t =
-    and 3 show-round-kinds.ps (falls 3 show-round-kinds.ps _<_ μ-show-round t) show-round.Pre
+    and 6 show-round-kinds.ps (falls 6 show-round-kinds.ps _<_ μ-show-round t) show-round.Pre
 
-abbrev show-rounds-at : ℕ → In 3 show-rounds-kinds.ps
+abbrev show-rounds-at : ℕ → In 6 show-rounds-kinds.ps
 show-rounds-at t =
-    and 3 show-rounds-kinds.ps (is 3 show-rounds-kinds.ps μ-show-rounds t) show-rounds.Pre
+    and 6 show-rounds-kinds.ps (is 6 show-rounds-kinds.ps μ-show-rounds t) show-rounds.Pre
 
-abbrev show-rounds-below : ℕ → In 3 show-rounds-kinds.ps
+abbrev show-rounds-below : ℕ → In 6 show-rounds-kinds.ps
 show-rounds-below t =
-    and 3 show-rounds-kinds.ps (falls 3 show-rounds-kinds.ps _<_ μ-show-rounds t) show-rounds.Pre
+    and 6 show-rounds-kinds.ps (falls 6 show-rounds-kinds.ps _<_ μ-show-rounds t) show-rounds.Pre
 
 abbrev show-item-calls : ℕ → show-item-lts.Claims
-show-item-calls t = (kind-at-reads.Asked, kind-at-reads.Learnt, child-count-reads.Asked, child-count-reads.Learnt, first-reads.Asked, first-reads.Learnt, second-reads.Asked, second-reads.Learnt, say-kind-reads.Asked, say-kind-reads.Learnt, say-value-reads.Asked, say-value-reads.Learnt, say-own-reads.Asked, say-own-reads.Learnt, say-reads.Asked, say-reads.Learnt, span-of-reads.Asked, span-of-reads.Learnt, show-rounds-below t, show-rounds.Post)
+show-item-calls t = (kind-at-reads.Asked, kind-at-reads.Learnt, child-count-reads.Asked, child-count-reads.Learnt, say-entry-reads.Asked, say-entry-reads.Learnt, first-reads.Asked, first-reads.Learnt, span-of-reads.Asked, span-of-reads.Learnt, show-rounds-below t, show-rounds.Post)
 
 abbrev show-round-calls : ℕ → show-round-lts.Claims
-show-round-calls t = (kind-at-reads.Asked, kind-at-reads.Learnt, indent-reads.Asked, indent-reads.Learnt, say-position-reads.Asked, say-position-reads.Learnt, say-reads.Asked, say-reads.Learnt, child-reads.Asked, child-reads.Learnt, show-item-below t, show-item.Post)
+show-round-calls t = (kind-at-reads.Asked, kind-at-reads.Learnt, keep-reads.Asked, keep-reads.Learnt, child-reads.Asked, child-reads.Learnt, show-item-below t, show-item.Post)
 
 abbrev show-rounds-calls : ℕ → show-rounds-lts.Claims
 show-rounds-calls t = (show-round-below t, show-round.Post)
@@ -77,48 +72,30 @@ show-item-kind-at-requires t c κs = search needs
 show-item-child-count-requires : (t : ℕ) → show-item-lts.Need-child-count-requires (show-item-calls t) (show-item-at t) show-item.Post
 show-item-child-count-requires t c κs = search needs
 
+show-item-say-entry-requires : (t : ℕ) → show-item-lts.Need-say-entry-requires (show-item-calls t) (show-item-at t) show-item.Post
+show-item-say-entry-requires t c κs = search needs
+
 show-item-first-requires : (t : ℕ) → show-item-lts.Need-first-requires (show-item-calls t) (show-item-at t) show-item.Post
-show-item-first-requires t c κs = let p = c .before .before .before .before .before .pre in omega (arith, p .1 .1 .1 .0, p .1 .1 .1 .1)
-
-show-item-second-requires : (t : ℕ) → show-item-lts.Need-second-requires (show-item-calls t) (show-item-at t) show-item.Post
-show-item-second-requires t c κs = let p = c .before .before .before .before .before .before .pre in omega (arith, p .1 .1 .1 .0, p .1 .1 .1 .1)
-
-show-item-say-kind-requires : (t : ℕ) → show-item-lts.Need-say-kind-requires (show-item-calls t) (show-item-at t) show-item.Post
-show-item-say-kind-requires t c κs = search needs
-
-show-item-say-value-requires : (t : ℕ) → show-item-lts.Need-say-value-requires (show-item-calls t) (show-item-at t) show-item.Post
-show-item-say-value-requires t c κs = search needs
-
-show-item-say-own-requires : (t : ℕ) → show-item-lts.Need-say-own-requires (show-item-calls t) (show-item-at t) show-item.Post
-show-item-say-own-requires t c κs = search needs
-
-show-item-slice-aggregate-say : (t : ℕ) → show-item-lts.Need-slice-aggregate-say (show-item-calls t) (show-item-at t) show-item.Post
-show-item-slice-aggregate-say t c = search needs
-
-show-item-say-requires : (t : ℕ) → show-item-lts.Need-say-requires (show-item-calls t) (show-item-at t) show-item.Post
-show-item-say-requires t c κs = search needs
+show-item-first-requires t c κs = search needs
 
 show-item-span-of-requires : (t : ℕ) → show-item-lts.Need-span-of-requires (show-item-calls t) (show-item-at t) show-item.Post
 show-item-span-of-requires t c κs = search needs
 
 show-item-add-show-rounds : (t : ℕ) → show-item-lts.Need-add-show-rounds (show-item-calls t) (show-item-at t) show-item.Post
-show-item-add-show-rounds t c = search needs
-
-show-item-add-show-rounds-2 : (t : ℕ) → show-item-lts.Need-add-show-rounds-2 (show-item-calls t) (show-item-at t) show-item.Post
 unfolding roomOf
-show-item-add-show-rounds-2 t c = let s = c .before .before .before .before .before .before .before .before .before .before .before .before .before in omega (arith, s .pre .1 .1 .1 .0, s .pre .1 .1 .1 .1, s .good .1 .1 .1 .1 .0 .1)
+show-item-add-show-rounds t c = let s = c .before .before .before .before .before .before .before .before .before .before .before .before in omega (arith, s .pre .1 .1 .1 .0, s .pre .1 .1 .1 .1, s .good .1 .1 .1 .1 .1 .0 .1)
 
 show-item-show-rounds-requires : (t : ℕ) → show-item-lts.Need-show-rounds-requires (show-item-calls t) (show-item-at t) show-item.Post
-show-item-show-rounds-requires t c κs = let p = c .before .before .before .before .before .before .before .before .before .before .before .before .before .pre in (search needs, (p .1 .0, search needs))
+show-item-show-rounds-requires t c κs = let p = c .before .before .before .before .before .before .before .before .before .before .before .before .pre in (search needs, (p .1 .0, search needs))
 
 show-item-returns : (t : ℕ) → show-item-lts.Need-returns (show-item-calls t) (show-item-at t) show-item.Post
 show-item-returns t c = search needs
 
 abbrev show-round-Inv-loop : show-round-lts.InvT-loop
-show-round-Inv-loop table l node from to round depth words made message at number next₀ k₀ t16 next k = next ≤ made .count
+show-round-Inv-loop table l node from to round way₀ depth words made message lined other at number next₀ k₀ way next k = next ≤ made .count
 
 abbrev show-round-μ-loop : show-round-lts.MeasureT-loop
-show-round-μ-loop table l node from to round depth words made message at number next₀ k₀ t16 next k = to - k
+show-round-μ-loop table l node from to round way₀ depth words made message lined other at number next₀ k₀ way next k = to - k
 
 show-round-kind-at-requires : (t : ℕ) → show-round-lts.Need-kind-at-requires (show-round-calls t) (show-round-at t) show-round.Post show-round-Inv-loop show-round-μ-loop
 show-round-kind-at-requires t c κs = search needs
@@ -129,23 +106,17 @@ show-round-loop-holds t c = search needs
 show-round-returns : (t : ℕ) → show-round-lts.Need-returns (show-round-calls t) (show-round-at t) show-round.Post show-round-Inv-loop show-round-μ-loop
 show-round-returns t c = search needs
 
-show-round-indent-requires : (t : ℕ) → show-round-lts.Need-indent-requires (show-round-calls t) (show-round-at t) show-round.Post show-round-Inv-loop show-round-μ-loop
-show-round-indent-requires t c κs = search needs
-
-show-round-say-position-requires : (t : ℕ) → show-round-lts.Need-say-position-requires (show-round-calls t) (show-round-at t) show-round.Post show-round-Inv-loop show-round-μ-loop
-show-round-say-position-requires t c κs = search needs
-
-show-round-slice-aggregate-say : (t : ℕ) → show-round-lts.Need-slice-aggregate-say (show-round-calls t) (show-round-at t) show-round.Post show-round-Inv-loop show-round-μ-loop
-show-round-slice-aggregate-say t c = search needs
-
-show-round-say-requires : (t : ℕ) → show-round-lts.Need-say-requires (show-round-calls t) (show-round-at t) show-round.Post show-round-Inv-loop show-round-μ-loop
-show-round-say-requires t c κs = search needs
+show-round-keep-requires : (t : ℕ) → show-round-lts.Need-keep-requires (show-round-calls t) (show-round-at t) show-round.Post show-round-Inv-loop show-round-μ-loop
+show-round-keep-requires t c κs = search needs
 
 show-round-child-requires : (t : ℕ) → show-round-lts.Need-child-requires (show-round-calls t) (show-round-at t) show-round.Post show-round-Inv-loop show-round-μ-loop
 show-round-child-requires t c κs = search needs
 
+show-round-add-show-item : (t : ℕ) → show-round-lts.Need-add-show-item (show-round-calls t) (show-round-at t) show-round.Post show-round-Inv-loop show-round-μ-loop
+show-round-add-show-item t c = search needs
+
 show-round-show-item-requires : (t : ℕ) → show-round-lts.Need-show-item-requires (show-round-calls t) (show-round-at t) show-round.Post show-round-Inv-loop show-round-μ-loop
-show-round-show-item-requires t c κs = let p = c .before .before .before .before .before .before .before .before .before .before .before .before .before .pre in (search needs, (p .1 .0, search needs))
+show-round-show-item-requires t c κs = let p = c .before .before .before .before .before .before .before .before .before .before .before .before .before .before .pre in (search needs, (p .1 .0, search needs))
 
 show-round-add-k : (t : ℕ) → show-round-lts.Need-add-k (show-round-calls t) (show-round-at t) show-round.Post show-round-Inv-loop show-round-μ-loop
 show-round-add-k t c = search needs
@@ -160,10 +131,10 @@ show-round-returns-2 : (t : ℕ) → show-round-lts.Need-returns-2 (show-round-c
 show-round-returns-2 t c = search needs
 
 abbrev show-rounds-Inv-loop : show-rounds-lts.InvT-loop
-show-rounds-Inv-loop table l node way depth words made message at next₀ round₀ next round = next ≤ made .count
+show-rounds-Inv-loop table l node span way₀ depth words made message lined other at next₀ round₀ way next round = next ≤ made .count
 
 abbrev show-rounds-μ-loop : show-rounds-lts.MeasureT-loop
-show-rounds-μ-loop table l node way depth words made message at next₀ round₀ next round = way .rounds - round
+show-rounds-μ-loop table l node span way₀ depth words made message lined other at next₀ round₀ way next round = span .rounds - round
 
 show-rounds-loop-holds : (t : ℕ) → show-rounds-lts.Need-loop-holds (show-rounds-calls t) (show-rounds-at t) show-rounds.Post show-rounds-Inv-loop show-rounds-μ-loop
 show-rounds-loop-holds t c = search needs
@@ -171,7 +142,7 @@ show-rounds-loop-holds t c = search needs
 show-rounds-returns :
     (t : ℕ) →
     show-rounds-lts.Need-returns
-    (show-round-below t, show-round.Post)
+    (show-rounds-calls t)
     (show-rounds-at t)
     show-rounds.Post
     show-rounds-Inv-loop
@@ -179,7 +150,7 @@ show-rounds-returns :
 show-rounds-returns t c = search needs
 
 show-rounds-show-round-requires : (t : ℕ) → show-rounds-lts.Need-show-round-requires (show-rounds-calls t) (show-rounds-at t) show-rounds.Post show-rounds-Inv-loop show-rounds-μ-loop
-show-rounds-show-round-requires t c κs = let p = c .before .before .before .before .before .before .before .before .pre in (search needs, (p .1 .0, search needs))
+show-rounds-show-round-requires t c κs = let p = c .before .before .before .before .before .before .before .before .before .before .before .pre in (search needs, (p .1 .0, search needs))
 
 show-rounds-add-round : (t : ℕ) → show-rounds-lts.Need-add-round (show-rounds-calls t) (show-rounds-at t) show-rounds.Post show-rounds-Inv-loop show-rounds-μ-loop
 show-rounds-add-round t c = search needs
@@ -200,18 +171,10 @@ pub +show-item+show-round+show-rounds-spec : {M : Type 1} → statement M
       kind-at-reads.Learnt,
       child-count-reads.Asked,
       child-count-reads.Learnt,
+      say-entry-reads.Asked,
+      say-entry-reads.Learnt,
       first-reads.Asked,
       first-reads.Learnt,
-      second-reads.Asked,
-      second-reads.Learnt,
-      say-kind-reads.Asked,
-      say-kind-reads.Learnt,
-      say-value-reads.Asked,
-      say-value-reads.Learnt,
-      say-own-reads.Asked,
-      say-own-reads.Learnt,
-      say-reads.Asked,
-      say-reads.Learnt,
       span-of-reads.Asked,
       span-of-reads.Learnt,
       show-rounds-below t,
@@ -221,27 +184,17 @@ pub +show-item+show-round+show-rounds-spec : {M : Type 1} → statement M
     show-item.Post
     (show-item-kind-at-requires t)
     (show-item-child-count-requires t)
+    (show-item-say-entry-requires t)
     (show-item-first-requires t)
-    (show-item-second-requires t)
-    (show-item-say-kind-requires t)
-    (show-item-say-value-requires t)
-    (show-item-say-own-requires t)
-    (show-item-slice-aggregate-say t)
-    (show-item-say-requires t)
     (show-item-span-of-requires t)
     (show-item-add-show-rounds t)
-    (show-item-add-show-rounds-2 t)
     (show-item-show-rounds-requires t)
     (show-item-returns t))
     (λ t. show-round-lts.spec (
       kind-at-reads.Asked,
       kind-at-reads.Learnt,
-      indent-reads.Asked,
-      indent-reads.Learnt,
-      say-position-reads.Asked,
-      say-position-reads.Learnt,
-      say-reads.Asked,
-      say-reads.Learnt,
+      keep-reads.Asked,
+      keep-reads.Learnt,
       child-reads.Asked,
       child-reads.Learnt,
       show-item-below t,
@@ -254,18 +207,16 @@ pub +show-item+show-round+show-rounds-spec : {M : Type 1} → statement M
     (show-round-kind-at-requires t)
     (show-round-loop-holds t)
     (show-round-returns t)
-    (show-round-indent-requires t)
-    (show-round-say-position-requires t)
-    (show-round-slice-aggregate-say t)
-    (show-round-say-requires t)
+    (show-round-keep-requires t)
     (show-round-child-requires t)
+    (show-round-add-show-item t)
     (show-round-show-item-requires t)
     (show-round-add-k t)
     (show-round-loop-less t)
     (show-round-loop-again t)
     (show-round-returns-2 t))
     λ t. show-rounds-lts.spec
-    (show-round-below t, show-round.Post)
+    (show-rounds-calls t)
     (show-rounds-at t)
     show-rounds.Post
     show-rounds-Inv-loop

@@ -9,16 +9,10 @@ use Rattle.listing.proofs.entries.show_entries.Tie as tie
 room-requires : tie.Need-room-requires
 room-requires c κs = search needs
 
-slice-aggregate-say : tie.Need-slice-aggregate-say
-slice-aggregate-say c = search needs
-
-say-requires : tie.Need-say-requires
-say-requires c κs = search needs
-
 show-item-requires : tie.Need-show-item-requires
 unfolding roomOf
 show-item-requires c κs =
-    let good = c .before .before .before .before .before .before .before .before .before .before .pre in
+    let good = c .before .before .before .before .before .before .before .before .before .before .before .pre in
     (good, ((good .root-below, omega (arith, good .short-chains _ (good .root-below))), (omega arith, omega arith)))
 
 returns : tie.Need-returns
@@ -33,4 +27,4 @@ returns-3 c = search needs
 pub show-entries-spec : {M : Type 1} → statement M
 show-entries-spec =
     tie.close
-    (tie.spec room-requires slice-aggregate-say say-requires show-item-requires returns returns-2 returns-3)
+    (tie.spec room-requires show-item-requires returns returns-2 returns-3)

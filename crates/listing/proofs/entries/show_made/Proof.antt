@@ -18,8 +18,26 @@ say-bad-requires c κs = search needs
 enum-known-layout : tie.Need-enum-known-layout
 enum-known-layout c = search needs
 
+sub-show-entries : tie.Need-sub-show-entries
+sub-show-entries c = search needs
+
+part-show-entries-start : tie.Need-part-show-entries-start
+part-show-entries-start c = search needs
+
+part-show-entries-end : tie.Need-part-show-entries-end
+part-show-entries-end c = search needs
+
+sub-show-entries-2 : tie.Need-sub-show-entries-2
+sub-show-entries-2 c = search needs
+
+part-show-entries-start-2 : tie.Need-part-show-entries-start-2
+part-show-entries-start-2 c = search needs
+
+part-show-entries-end-2 : tie.Need-part-show-entries-end-2
+part-show-entries-end-2 c = search needs
+
 show-entries-requires : tie.Need-show-entries-requires
-show-entries-requires c κs = good-table _ _ (sym (c .before .before .before .check .ensures) ∙ c .before .layout .given .1)
+show-entries-requires c κs = good-table _ _ (sym (c .before .before .before .before .before .check .ensures) ∙ c .before .before .before .layout .given .1)
 
 show-end-requires : tie.Need-show-end-requires
 show-end-requires c κs = search needs
@@ -38,6 +56,12 @@ show-made-spec =
     enum-known-why
     say-bad-requires
     enum-known-layout
+    sub-show-entries
+    part-show-entries-start
+    part-show-entries-end
+    sub-show-entries-2
+    part-show-entries-start-2
+    part-show-entries-end-2
     show-entries-requires
     show-end-requires
     returns

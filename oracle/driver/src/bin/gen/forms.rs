@@ -135,6 +135,17 @@ pub fn odd_varints(Width(most, last): Width) -> Vec<Vec<u8>> {
     list
 }
 
+/// Every byte string of up to so many bytes below a limit.
+pub fn all_below(limit: u8, most: usize) -> Vec<Vec<u8>> {
+    let mut all = vec![vec![]];
+    let mut longest = all.clone();
+    for _ in 0..most {
+        longest = (0..limit).flat_map(|last| longest.iter().map(move |m| [&m[..], &[last]].concat())).collect();
+        all.extend(longest.clone());
+    }
+    all
+}
+
 /// A varint of the same value and so many bytes.
 pub fn padded_to(mut varint: Vec<u8>, len: usize) -> Vec<u8> {
     while varint.len() < len {

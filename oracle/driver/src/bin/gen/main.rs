@@ -1,11 +1,12 @@
 //! `gen SEED COUNT` prints COUNT request lines for `oracle` (PROTOCOL.md), always the same
 //! ones for the same seed: first a fixed part of edge cases, then random rounds.
 //! `gen SEED COUNT strict` prints strict reads alone; more than a third of their answers are 16.
-//! `gen SEED COUNT find` prints finds alone.
+//! `gen SEED COUNT find` prints finds alone, `gen SEED COUNT compare` comparisons.
 
 mod edges;
 mod forms;
 mod padded;
+mod pairs;
 mod paths;
 mod rounds;
 mod tables;
@@ -23,8 +24,9 @@ fn main() {
         [seed, count] => (seed, count, Stream::Plain),
         [seed, count, "strict"] => (seed, count, Stream::Strict),
         [seed, count, "find"] => (seed, count, Stream::Find),
+        [seed, count, "compare"] => (seed, count, Stream::Compare),
         _ => {
-            eprintln!("usage: gen SEED COUNT [strict|find]");
+            eprintln!("usage: gen SEED COUNT [strict|find|compare]");
             std::process::exit(2)
         }
     };
@@ -46,6 +48,7 @@ enum Stream {
     /// Every read is a strict one.
     Strict,
     Find,
+    Compare,
 }
 
 struct Gen {
@@ -101,6 +104,10 @@ impl Gen {
     fn find(&mut self, file: &[u8], path: &[u64], message: &[u8]) -> Go {
         self.line('I', format_args!("{} {} {}", hex(file), words_text(path), hex(message)))
     }
+    /// With a list of so many words.
+    fn compare(&mut self, file: &[u8], one: &[u8], other: &[u8], words: usize) -> Go {
+        self.line('C', format_args!("{} {} {} {words:x}", hex(file), hex(one), hex(other)))
+    }
 
     /// The words of entries that say of their items whatever place.
     fn placed(&mut self, items: &[[u64; 2]]) -> Vec<u64> {
@@ -124,6 +131,7 @@ impl Gen {
                 self.paddings_at_the_edge()?;
             }
             Stream::Find => self.paths_at_the_edge()?,
+            Stream::Compare => self.pairs_at_the_edge()?,
         }
         self.rng = Rng(seed);
         loop {
@@ -131,6 +139,7 @@ impl Gen {
                 Stream::Plain => self.round()?,
                 Stream::Strict => self.strict_round()?,
                 Stream::Find => self.find_round()?,
+                Stream::Compare => self.compare_round()?,
             }
         }
     }

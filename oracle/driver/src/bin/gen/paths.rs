@@ -1,7 +1,7 @@
 //! The stream of finds: paths that lead to an item and paths that don't, in messages that are good up to the item, up to
 //! its end, or not so far.
 
-use crate::forms::{odd_texts, odd_varints, Odd};
+use crate::forms::{all_below, odd_texts, odd_varints, Odd};
 use crate::rounds::Sample;
 use crate::tables::{fewest, leaf, rooted, with, LEAVES};
 use crate::{Gen, Go};
@@ -35,7 +35,7 @@ impl Gen {
     }
 
     /// A random table under a way of structs and options, down from its root to one of its nodes or to a leaf.
-    fn way(&mut self) -> Table {
+    pub fn way(&mut self) -> Table {
         let mut t = self.table();
         if self.rng.chance(2) {
             t.nodes.push(leaf(*self.rng.pick(&LEAVES)));
@@ -169,7 +169,7 @@ impl Gen {
     }
 
     /// A struct of a crowd and of the table's value; and how many entries one of the crowd makes.
-    fn crowd(&mut self, t: &Table) -> (Table, usize) {
+    pub fn crowd(&mut self, t: &Table) -> (Table, usize) {
         let mut t = t.clone();
         let (value, unit) = (t.root, t.nodes.len());
         t.nodes.push(leaf(if self.rng.chance(3) { STRUCT } else { UNIT }));
@@ -289,15 +289,12 @@ impl Gen {
             with(STRUCT, &[1, 3, 0]),
         ]);
         let file = t.file();
-        let all = |digits: u64, most: u32| {
-            (0..=most).flat_map(move |len| {
-                (0..digits.pow(len)).map(move |n| (0..len).map(|i| n / digits.pow(i) % digits).collect::<Vec<u64>>())
-            })
-        };
-        for path in all(3, 3).filter(|path| leads(&t, path) || path.len() < 3) {
-            for m in all(3, 5) {
-                let m: Vec<u8> = m.iter().map(|&b| b as u8).collect();
-                self.find(&file, &path, &m)?;
+        for path in all_below(3, 3) {
+            let path: Vec<u64> = path.iter().map(|&p| p.into()).collect();
+            if leads(&t, &path) || path.len() < 3 {
+                for m in all_below(3, 5) {
+                    self.find(&file, &path, &m)?;
+                }
             }
         }
         // An option in an option, and a struct without fields in between.

@@ -168,7 +168,7 @@ impl Gen {
     }
 
     /// A random value of a node, put behind `entries`.
-    fn value(&mut self, t: &Table, min: &[u64], node: usize, entries: &mut Vec<Entry>, pool: &mut Vec<u8>) {
+    pub fn value(&mut self, t: &Table, min: &[u64], node: usize, entries: &mut Vec<Entry>, pool: &mut Vec<u8>) {
         let full = entries.len() > 60;
         let n = &t.nodes[node];
         let at = entries.len();

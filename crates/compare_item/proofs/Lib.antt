@@ -1,0 +1,4 @@
+-- The proofs of the laws that the functions' proofs cite.
+pub mod Leaves
+pub mod Pairs
+pub mod Entering

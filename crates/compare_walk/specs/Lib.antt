@@ -1,0 +1,2 @@
+-- What the contracts of the walk over both messages cite.
+pub mod Steps

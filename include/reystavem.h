@@ -13,6 +13,9 @@
  *   14  an option on the path is absent
  *   15  the list is too short for the differences
  *   16  not shortest: an item's bytes aren't the ones that a writer writes for its value
+ *   17  the key fields don't fit the table
+ *   18  the batch is bad
+ *   19  the batch has no such store and product
  *   20 to 24, a feed's answers: consumed, over-full, bad frame, frame, bad state
  *   25  the work area is too short
  *
@@ -113,6 +116,35 @@ uint64_t reystavem_compare(const uint8_t *table, size_t table_len,
                            const uint8_t *other, size_t other_len,
                            uint64_t *list, size_t list_words,
                            uint64_t *place, uint64_t *which, uint64_t *count);
+
+/* Writes a night batch of messages that stand end to end: their bytes unchanged, then a row of 16 bytes
+ * for each, sorted by store, then product, then offset, then a trailer of 12 bytes. The two fields are
+ * positions in the root struct, of a u32 and a u64. *place: bytes written, or the place of the refusal.
+ * Refusals: of the table; 17; a message's own, at its place among all of them, each read as with a store
+ * of 16384 entries; 18 if an offset, the count or the rows' length leaves 32 bits; 12. On a refusal the
+ * output is unchanged, on 0 only the bytes written changed. */
+uint64_t reystavem_batch_write(const uint8_t *table, size_t table_len,
+                               const uint8_t *messages, size_t messages_len,
+                               uint64_t store_field, uint64_t product_field,
+                               uint8_t *out, size_t out_len, uint64_t *place);
+
+/* Whether a batch is good: it reads fully from its first byte to the rows, message after message, and
+ * the rows are one for each message, in order, with its own key and offset. Refusals: of the table; 17,
+ * but 18 first if the batch is shorter than a trailer; 18. *place: the table's first bad node, else 0. */
+uint64_t reystavem_batch_check(const uint8_t *table, size_t table_len,
+                               const uint8_t *batch, size_t batch_len, uint64_t *place);
+
+/* Finds the last message of a store and product from the rows, by halves. *from and *len: where it begins
+ * in the batch and how long it is; 0 and 0 on a refusal. On a batch that reystavem_batch_check passes,
+ * that is what reading every message from the front finds. On any other batch the call ends too: a part
+ * that is found lies before the rows and is one message, but it may not be the last, and a message that is
+ * there may not be found. Refusals: as reystavem_batch_check's, of the table, the fields and the trailer
+ * alone; 19 if no row is found; 18 if the row's offset isn't before the rows or no message is read
+ * there. */
+uint64_t reystavem_batch_last(const uint8_t *table, size_t table_len,
+                              const uint8_t *batch, size_t batch_len,
+                              uint64_t store, uint64_t product,
+                              uint64_t *place, uint64_t *from, uint64_t *len);
 
 #ifdef __cplusplus
 }

@@ -102,6 +102,35 @@ mod ffi {
             which: *mut u64,
             count: *mut u64,
         ) -> u64;
+        pub fn reystavem_batch_write(
+            table: *const u8,
+            table_len: usize,
+            messages: *const u8,
+            messages_len: usize,
+            store_field: u64,
+            product_field: u64,
+            out: *mut u8,
+            out_len: usize,
+            place: *mut u64,
+        ) -> u64;
+        pub fn reystavem_batch_check(
+            table: *const u8,
+            table_len: usize,
+            batch: *const u8,
+            batch_len: usize,
+            place: *mut u64,
+        ) -> u64;
+        pub fn reystavem_batch_last(
+            table: *const u8,
+            table_len: usize,
+            batch: *const u8,
+            batch_len: usize,
+            store: u64,
+            product: u64,
+            place: *mut u64,
+            from: *mut u64,
+            len: *mut u64,
+        ) -> u64;
     }
 }
 
@@ -141,6 +170,12 @@ pub enum Why {
     List = 15,
     /// An item's bytes aren't the ones that a writer writes for its value; strict reading only.
     NotShortest = 16,
+    /// The key fields aren't a u32 and a u64 of the table's root struct.
+    Fields = 17,
+    /// A batch isn't good; in writing, there is more than its fields have room for.
+    Batch = 18,
+    /// The batch has no message of such a store and product.
+    Key = 19,
     /// The work area is shorter than `AREA`.
     Area = 25,
 }
@@ -164,6 +199,9 @@ impl Why {
             14 => Why::Absent,
             15 => Why::List,
             16 => Why::NotShortest,
+            17 => Why::Fields,
+            18 => Why::Batch,
+            19 => Why::Key,
             25 => Why::Area,
             _ => unreachable!("the library's contract has no other number"),
         }
@@ -560,6 +598,90 @@ pub fn compare(table: &[u8], one: &[u8], other: &[u8], list: &mut [u64]) -> Resu
 /// The pairs of places that a list holds: an item's in the one message, and in the other.
 pub fn differences(list: &[u64]) -> impl Iterator<Item = (usize, usize)> + '_ {
     list.chunks_exact(2).map(|pair| (pair[0] as usize, pair[1] as usize))
+}
+
+/// Writes a night batch of messages that are laid end to end: the messages, a row of 16 bytes for each, sorted by store,
+/// product and offset, and a trailer of 12 bytes. How many bytes were written.
+///
+/// The fields are places in the table's root struct, of a store (u32) and a product (u64). Each message is read as with a
+/// store of 16,384 entries; a refusal has its place in the whole input. Every message is read before the output is looked
+/// at, and on a refusal it is unchanged.
+///
+/// ```
+/// # let table = reystavem::samples::TABLE_T;
+/// let mut out = [0; 64];
+/// let len = reystavem::batch_write(table, &[0xac, 0x02, 0x05, 0x03, 0x07, 0x05, 0x00], 0, 1, &mut out).unwrap();
+/// let batch = &out[..len];
+/// assert_eq!(reystavem::batch_check(table, batch), Ok(()));
+/// assert_eq!(reystavem::batch_last(table, batch, 300, 5), Ok(&[0xac, 0x02, 0x05, 0x03][..]));
+/// ```
+pub fn batch_write(
+    table: &[u8],
+    messages: &[u8],
+    store_field: u64,
+    product_field: u64,
+    out: &mut [u8],
+) -> Result<usize, Refused> {
+    let mut place = 0;
+    // SAFETY: each slice is lent with its own length; `out` is borrowed for us alone.
+    let number = unsafe {
+        ffi::reystavem_batch_write(
+            table.as_ptr(),
+            table.len(),
+            messages.as_ptr(),
+            messages.len(),
+            store_field,
+            product_field,
+            out.as_mut_ptr(),
+            out.len(),
+            &mut place,
+        )
+    };
+    match number {
+        0 => Ok(place as usize),
+        _ => Err(refused(number, place)),
+    }
+}
+
+/// Whether a batch is good as a whole: it reads from its first byte to its rows, message after message, and its rows and
+/// trailer are those of these messages.
+pub fn batch_check(table: &[u8], batch: &[u8]) -> Result<(), Refused> {
+    let mut place = 0;
+    // SAFETY: each slice is lent with its own length, and `place` is ours.
+    let number = unsafe {
+        ffi::reystavem_batch_check(table.as_ptr(), table.len(), batch.as_ptr(), batch.len(), &mut place)
+    };
+    match number {
+        0 => Ok(()),
+        _ => Err(refused(number, place)),
+    }
+}
+
+/// The last message of a store and product, its bytes as a part of the batch, found from the rows.
+///
+/// On a batch that passes `batch_check` this is what reading every message from the front would find. On another one it
+/// refuses a bad trailer and an offset that isn't before the rows; what it answers otherwise isn't fixed.
+#[inline]
+pub fn batch_last<'b>(table: &[u8], batch: &'b [u8], store: u64, product: u64) -> Result<&'b [u8], Refused> {
+    let (mut place, mut from, mut len) = (0, 0, 0);
+    // SAFETY: each slice is lent with its own length; the numbers are ours.
+    let number = unsafe {
+        ffi::reystavem_batch_last(
+            table.as_ptr(),
+            table.len(),
+            batch.as_ptr(),
+            batch.len(),
+            store,
+            product,
+            &mut place,
+            &mut from,
+            &mut len,
+        )
+    };
+    match number {
+        0 => Ok(&batch[from as usize..][..len as usize]),
+        _ => Err(refused(number, place)),
+    }
 }
 
 /// Tables to try things with.

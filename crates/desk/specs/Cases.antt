@@ -1,15 +1,19 @@
 -- Worked examples of document 02's questions: a call, and what it must answer.
 -- Assumes nothing.
 use mathlib.Core.Path.{_≡_}
-use mathlib.Core.List.{List, [], _∷_}
+use mathlib.Core.List.{List, [], _∷_, _++_}
 use mathlib.Core.List as lists
 use Prim.Native.Nat.{ℕ}
+use lib.ListN.{replicate}
 use Rattle.wire.specs.Answers.{Numbered}
 use Rattle.wire.specs.Cases.{tableT, tabled, leafTable}
 use Rattle.desk.specs.declared.FindAnswer.{FindAnswer}
 use Rattle.desk.specs.declared.CompareAnswer.{CompareAnswer}
 use Rattle.desk.specs.Path.{finds, findSays, firstOf, secondOf}
+use Rattle.desk.specs.declared.BatchFound.{BatchFound}
+use Rattle.desk.specs.declared.BatchFound.the-variants.{Part as PartFound}
 use Rattle.desk.specs.Differ.{compares, compareAnswer, listAfter, compareSays, whichOf, countOf}
+use Rattle.desk.specs.Batch.{batchWrite, batchWriteOut, batchCheck, batchLast, partOf, writtenSays, checkedSays, foundSays, fromOf, lenOf}
 
 -- ---- one item by its path
 
@@ -134,4 +138,91 @@ compareCases =
     ∷ comparing tableT (0xac ∷ []) [] (7 ∷ 7 ∷ []) 3 0 0 0 (7 ∷ 7 ∷ [])
     ∷ comparing tableT (0xac ∷ 0x02 ∷ 0x05 ∷ 0x03 ∷ []) (0xac ∷ 0x02 ∷ []) (7 ∷ 7 ∷ []) 3 2 1 0 (7 ∷ 7 ∷ [])
     ∷ comparing tableT (0xac ∷ 0x02 ∷ []) (0xac ∷ []) (7 ∷ 7 ∷ []) 3 2 0 0 (7 ∷ 7 ∷ [])
+    ∷ []
+
+-- ---- night batches
+
+pub data BatchCall : Type 0 where
+  writing : (table messages : List ℕ) (store product : ℕ) (out : List ℕ) → BatchCall
+  checking : (table batch : List ℕ) → BatchCall
+  searching : (table batch : List ℕ) (store product : ℕ) → BatchCall
+  handing : (batch : List ℕ) (from len : ℕ) → BatchCall
+
+-- number and place, and the output afterwards, or the part's two numbers and its bytes
+pub record BatchSaid : Type 0 where
+  pub number : ℕ
+  pub place : ℕ
+  pub lent : List ℕ
+
+unfoldable pub saying : Numbered → List ℕ → BatchSaid
+saying n lent = record { number = n .number; place = n .place; lent = lent }
+
+unfoldable pub foundPart : (batch : List ℕ) → BatchFound → BatchSaid
+foundPart batch a = saying (foundSays a) (fromOf a ∷ lenOf a ∷ partOf batch a)
+
+unfoldable pub batchAnswer : BatchCall → BatchSaid
+batchAnswer (writing table s store product out) = saying (writtenSays (batchWrite table s store product out)) (batchWriteOut table s store product out)
+batchAnswer (checking table batch) = saying (checkedSays (batchCheck table batch)) []
+batchAnswer (searching table batch store product) = foundPart batch (batchLast table batch (record { store = store; product = product }))
+batchAnswer (handing batch from len) = foundPart batch (PartFound from len)
+
+pub record BatchCase : Type 0 where
+  pub call : BatchCall
+  pub said : BatchSaid
+
+unfoldable pub says : BatchCall → (number place : ℕ) → (lent : List ℕ) → BatchCase
+says call number place lent = record { call = call; said = record { number = number; place = place; lent = lent } }
+
+abbrev pub BatchesHold : List BatchCase → Type 0
+BatchesHold cs = lists.map (λ (c : BatchCase). batchAnswer (c .call)) cs ≡ lists.map (λ (c : BatchCase). c .said) cs
+
+-- under table T: store 300 and product 5 counted -2, store 7 and product 5 counted 1, then the first again, counted 3
+unfoldable pub three : List ℕ
+three = 0xac ∷ 0x02 ∷ 0x05 ∷ 0x03 ∷ 0x07 ∷ 0x05 ∷ 0x02 ∷ 0xac ∷ 0x02 ∷ 0x05 ∷ 0x06 ∷ []
+
+-- rows of stores 7 and 300, and a trailer
+unfoldable pub seven : (product offset : ℕ) → List ℕ
+seven product offset = 7 ∷ 0 ∷ 0 ∷ 0 ∷ product ∷ 0 ∷ 0 ∷ 0 ∷ 0 ∷ 0 ∷ 0 ∷ 0 ∷ offset ∷ 0 ∷ 0 ∷ 0 ∷ []
+
+unfoldable pub threeHundred : (offset : ℕ) → List ℕ
+threeHundred offset = 0x2c ∷ 1 ∷ 0 ∷ 0 ∷ 5 ∷ 0 ∷ 0 ∷ 0 ∷ 0 ∷ 0 ∷ 0 ∷ 0 ∷ offset ∷ 0 ∷ 0 ∷ 0 ∷ []
+
+unfoldable pub ending : (count distance store product : ℕ) → List ℕ
+ending count distance store product = count ∷ 0 ∷ 0 ∷ 0 ∷ distance ∷ 0 ∷ 0 ∷ 0 ∷ store ∷ 0 ∷ product ∷ 0 ∷ []
+
+-- their batch of 71 bytes
+unfoldable pub night : List ℕ
+night = three ++ (seven 5 4 ++ (threeHundred 0 ++ (threeHundred 7 ++ ending 3 48 0 1)))
+
+unfoldable pub batchCases : List BatchCase
+batchCases =
+    -- written with a byte to spare, and with one too few; the reader's own refusal in the fourth message; key fields swapped, or not there
+    says (writing tableT three 0 1 (replicate 72 9)) 0 71 (night ++ (9 ∷ []))
+    ∷ says (writing tableT three 0 1 (replicate 70 9)) 12 0 (replicate 70 9)
+    ∷ says (writing tableT (three ++ (0xac ∷ [])) 0 1 (9 ∷ [])) 3 11 (9 ∷ [])
+    ∷ says (writing tableT three 1 0 (9 ∷ [])) 17 0 (9 ∷ [])
+    ∷ says (writing tableT (0xac ∷ []) 0 3 (9 ∷ [])) 17 0 (9 ∷ [])
+    ∷ says (writing tableT [] 0 1 (replicate 12 9)) 0 12 (ending 0 0 0 1)
+    -- of one store, rows by product
+    ∷ says (writing tableT (7 ∷ 6 ∷ 2 ∷ 7 ∷ 5 ∷ 2 ∷ []) 0 1 (replicate 50 9)) 0 50 (7 ∷ 6 ∷ 2 ∷ 7 ∷ 5 ∷ 2 ∷ (seven 5 3 ++ (seven 6 0 ++ ending 2 32 0 1)))
+    -- good; ties out of offset's order; a row too few; a row of another message; a message that reaches into the rows
+    ∷ says (checking tableT night) 0 0 []
+    ∷ says (checking tableT (three ++ (seven 5 4 ++ (threeHundred 7 ++ (threeHundred 0 ++ ending 3 48 0 1))))) 18 0 []
+    ∷ says (checking tableT (three ++ (seven 5 4 ++ (threeHundred 7 ++ ending 2 32 0 1)))) 18 0 []
+    ∷ says (checking tableT (three ++ (seven 5 3 ++ (threeHundred 0 ++ (threeHundred 7 ++ ending 3 48 0 1))))) 18 0 []
+    ∷ says (checking tableT (7 ∷ 5 ∷ (seven 5 0 ++ ending 1 16 0 1))) 18 0 []
+    -- under 12 bytes 18 comes before 17; a distance that is not 16 times the count, or reaches beyond the start
+    ∷ says (checking (leafTable 7) (1 ∷ [])) 18 0 []
+    ∷ says (checking (leafTable 7) night) 17 0 []
+    ∷ says (checking tableT (three ++ (seven 5 4 ++ ending 1 17 0 1))) 18 0 []
+    ∷ says (checking tableT (ending 1 16 0 1)) 18 0 []
+    -- the last of two; no such product, and a store that fits no row; an offset that is not before the rows
+    ∷ says (searching tableT night 300 5) 0 0 (7 ∷ 4 ∷ 0xac ∷ 0x02 ∷ 0x05 ∷ 0x06 ∷ [])
+    ∷ says (searching tableT night 300 6) 19 0 (0 ∷ 0 ∷ [])
+    ∷ says (searching tableT night 4294967303 5) 19 0 (0 ∷ 0 ∷ [])
+    ∷ says (searching tableT (seven 5 4 ++ ending 1 16 0 1) 7 5) 18 0 (0 ∷ 0 ∷ [])
+    -- a made-up answer that ends with the batch, and two that point beyond it
+    ∷ says (handing (1 ∷ 2 ∷ 3 ∷ []) 1 2) 0 0 (1 ∷ 2 ∷ 2 ∷ 3 ∷ [])
+    ∷ says (handing (1 ∷ 2 ∷ 3 ∷ []) 1 3) 0 0 (1 ∷ 3 ∷ [])
+    ∷ says (handing (1 ∷ 2 ∷ 3 ∷ []) 4 0) 0 0 (4 ∷ 0 ∷ [])
     ∷ []

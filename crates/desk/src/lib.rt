@@ -27,3 +27,42 @@ pub enum CompareAnswer {
     Refused { why: Refusal, place: usize },
     OtherRefused { why: Refusal, place: usize },
 }
+
+// A store and a product, by which a message is asked for.
+pub struct Key {
+    pub store: u64,
+    pub product: u64,
+}
+
+// A row of a batch: the key of a message, and where it begins.
+pub struct Row {
+    pub key: Key,
+    pub offset: u64,
+}
+
+// Why a batch call refuses: by a refusal of the wire and its place, or by one of its own, at place 0: the key fields are unfit for
+// the table, the batch is bad, or there is no such key.
+pub enum Fault {
+    Wire { why: Refusal, place: usize },
+    Fields,
+    Batch,
+    Missing,
+}
+
+// How the writing of a batch ends: the bytes written, or why it is refused.
+pub enum BatchWritten {
+    Done { place: usize },
+    Refused { why: Fault },
+}
+
+// What the whole check of a batch answers.
+pub enum BatchChecked {
+    Good,
+    Bad { why: Fault },
+}
+
+// Where the last message of a store and product stands, or why there is none.
+pub enum BatchFound {
+    Part { from: usize, len: usize },
+    Refused { why: Fault },
+}

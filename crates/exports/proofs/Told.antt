@@ -30,7 +30,18 @@ use Rattle.desk.specs.declared.CompareAnswer.the-variants.{Done as AllPairs, Sh
 use Rattle.desk.specs.Differ.{Answered, compareSays}
 use Rattle.desk.specs.Differ as differ
 use Rattle.compare.specs.Promise.{Compares}
-use Rattle.exports.specs.Calls.{Told, countOf, Counted, Read, Wrote, whichOf, yesOf, Asked, firstOf, secondOf, atOf, Took, Found, Compared}
+use Rattle.desk.specs.declared.Fault.{Fault}
+use Rattle.desk.specs.declared.Fault.the-variants.{Wire, Fields, Batch as BadBatch, Missing}
+use Rattle.desk.specs.declared.BatchWritten.{BatchWritten}
+use Rattle.desk.specs.declared.BatchWritten.the-variants.{Done as BatchDone, Refused as NoBatch}
+use Rattle.desk.specs.declared.BatchChecked.{BatchChecked}
+use Rattle.desk.specs.declared.BatchChecked.the-variants.{Good as GoodBatch, Bad as NotGood}
+use Rattle.desk.specs.declared.BatchFound.{BatchFound}
+use Rattle.desk.specs.declared.BatchFound.the-variants.{Part, Refused as NoPart}
+use Rattle.desk.specs.Batch.{Or, faultSays, writtenSays, checkedSays, foundSays, fromOf, lenOf}
+use Rattle.batches.specs.Search.{Searched}
+use Rattle.batch.specs.Writing as batch
+use Rattle.exports.specs.Calls.{Told, countOf, Counted, Read, Wrote, whichOf, yesOf, Asked, firstOf, secondOf, atOf, Took, Found, Compared, BatchWrote, LastFound}
 
 -- ---- the check
 
@@ -140,3 +151,49 @@ module _ {w : Answered} {list left : List ℕ} {r : CompareAnswer} (h : Compares
   pub compare-other : {e : Refusal} {p n : ℕ} → r ≡ OtherRefused e p → n ≡ refusalNumber e → Compared w list n p 1 0 left
   unfolding compareSays numbered differ.whichOf differ.countOf
   compare-other g k = record { told = rw (sym (h .answered) ∙ g) (record { number = k; place = refl }); which = rw (sym (h .answered) ∙ g); count = rw (sym (h .answered) ∙ g); listed = h .listed }
+
+-- ---- night batches
+
+module _ {f : Fault} where
+  pub fault-wire : {e : Refusal} {p n : ℕ} → f ≡ Wire e p → n ≡ refusalNumber e → Told (faultSays f) n p
+  unfolding faultSays
+  fault-wire g k = rw g (record { number = k; place = refl })
+
+  pub fault-fields : f ≡ Fields → Told (faultSays f) 17 0
+  unfolding faultSays
+  fault-fields g = rw g (record { number = refl; place = refl })
+
+  pub fault-batch : f ≡ BadBatch → Told (faultSays f) 18 0
+  unfolding faultSays
+  fault-batch g = rw g (record { number = refl; place = refl })
+
+  pub fault-missing : f ≡ Missing → Told (faultSays f) 19 0
+  unfolding faultSays
+  fault-missing g = rw g (record { number = refl; place = refl })
+
+module _ {made : Or (List ℕ)} {out left : List ℕ} {r : BatchWritten} (h : batch.Writes made out r left) where
+  pub batch-done : {p : ℕ} → r ≡ BatchDone p → BatchWrote made out 0 p left
+  unfolding writtenSays done
+  batch-done g = record { told = rw (sym (h .answered) ∙ g) (record { number = refl; place = refl }); written = h .stored }
+
+  pub batch-refused : {f : Fault} {p n : ℕ} → r ≡ NoBatch f → Told (faultSays f) n p → BatchWrote made out n p left
+  unfolding writtenSays
+  batch-refused g k = record { told = rw (sym (h .answered) ∙ g) k; written = h .stored }
+
+module _ {a r : BatchChecked} (e : r ≡ a) where
+  pub batch-good : r ≡ GoodBatch → Told (checkedSays a) 0 0
+  unfolding checkedSays done
+  batch-good g = rw (← e, g) (record { number = refl; place = refl })
+
+  pub batch-bad : {f : Fault} {p n : ℕ} → r ≡ NotGood f → Told (faultSays f) n p → Told (checkedSays a) n p
+  unfolding checkedSays
+  batch-bad g k = rw (← e, g) k
+
+module _ {table bytes : List ℕ} {store product : ℕ} {r : BatchFound} (h : Searched table bytes (record { store = store; product = product }) r) where
+  pub last-part : {from len : ℕ} → r ≡ Part from len → LastFound table bytes store product 0 0 from len
+  unfolding foundSays done fromOf lenOf
+  last-part g = record { answer = r; searched = h; told = rw g (record { number = refl; place = refl }); starts = rw g; long = rw g }
+
+  pub last-refused : {f : Fault} {p n : ℕ} → r ≡ NoPart f → Told (faultSays f) n p → LastFound table bytes store product n p 0 0
+  unfolding foundSays fromOf lenOf
+  last-refused g k = record { answer = r; searched = h; told = rw g k; starts = rw g; long = rw g }

@@ -1,11 +1,15 @@
--- Each part that a contract names is an equation; where a chunk's rest begins is told by the rest's length.
+-- Each part that a contract names is an equation; where a chunk's rest begins is told by the rest's length, and what a search in
+-- a batch that passes answers is the last message.
 -- Assumes nothing.
 use mathlib.Core.Path.{_≡_, sym, ap, _∙_}
 use mathlib.Core.List.{List}
 use Prim.Native.Nat.{ℕ}
 use native.Mathlib.Omega.{arith}
 use lib.ListN.{length, length-drop}
-use Rattle.exports.specs.Unique.{OneTold, OneRead, OneWrote, OneAsked, OneFedCall, OneTook, OneFound, OneCompared}
+use Rattle.desk.specs.declared.BatchFound.{BatchFound}
+use Rattle.desk.specs.Batch.{foundSays, fromOf, lenOf}
+use Rattle.batches.proofs.Search.{searched-is-last}
+use Rattle.exports.specs.Unique.{OneTold, OneRead, OneWrote, OneAsked, OneFedCall, OneTook, OneFound, OneCompared, OneBatchWrote, OneLast}
 
 -- two that equal a third
 alike : {A : Type 0} {a x y : A} → x ≡ a → y ≡ a → x ≡ y
@@ -75,3 +79,20 @@ one-compared w list x y h k = λ i. (
   alike (h .count) (k .count) i,
   alike (h .listed) (k .listed) i,
 )
+
+pub one-batch-wrote : OneBatchWrote
+one-batch-wrote made out x y h k = λ i. (
+  alike (h .told .number) (k .told .number) i,
+  alike (h .told .place) (k .told .place) i,
+  alike (h .written) (k .written) i,
+)
+
+pub one-last : OneLast
+one-last table batch store product good x y h k =
+    let same : h .answer ≡ k .answer = alike (searched-is-last table batch _ _ good (h .searched)) (searched-is-last table batch _ _ good (k .searched)) in
+    λ i. (
+      alike (h .told .number ∙ ap (λ (a : BatchFound). foundSays a .number) same) (k .told .number) i,
+      alike (h .told .place ∙ ap (λ (a : BatchFound). foundSays a .place) same) (k .told .place) i,
+      alike (h .starts ∙ ap fromOf same) (k .starts) i,
+      alike (h .long ∙ ap lenOf same) (k .long) i,
+    )

@@ -18,6 +18,10 @@ use Rattle.desk.specs.Path.{findSays}
 use Rattle.desk.specs.Path as path
 use Rattle.desk.specs.Differ.{Answered, compareAnswer, listAfter, compareSays}
 use Rattle.desk.specs.Differ as differ
+use Rattle.desk.specs.declared.BatchFound.{BatchFound}
+use Rattle.desk.specs.Batch.{Or, writtenAnswer, writtenSays, foundSays, fromOf, lenOf}
+use Rattle.desk.specs.Batch as batches
+use Rattle.batches.specs.Search.{Searched}
 
 -- document 01's number is returned, and the place left
 pub record Told (n : Numbered) (r p : ℕ) : Type 0 where
@@ -100,3 +104,15 @@ pub record Compared (w : Answered) (list : List ℕ) (r p t n : ℕ) (list′ : 
   pub which : t ≡ differ.whichOf (compareAnswer w list)
   pub count : n ≡ differ.countOf (compareAnswer w list)
   pub listed : list′ ≡ listAfter w list
+
+pub record BatchWrote (made : Or (List ℕ)) (out : List ℕ) (r p : ℕ) (out′ : List ℕ) : Type 0 where
+  pub told : Told (writtenSays (writtenAnswer made)) r p
+  pub written : out′ ≡ batches.outWith made out
+
+-- an answer that the search may have, and its part, 0 and 0 on a refusal
+pub record LastFound (table batch : List ℕ) (store product : ℕ) (r p from len : ℕ) : Type 0 where
+  pub answer : BatchFound
+  pub searched : Searched table batch (record { store = store; product = product }) answer
+  pub told : Told (foundSays answer) r p
+  pub starts : from ≡ fromOf answer
+  pub long : len ≡ lenOf answer

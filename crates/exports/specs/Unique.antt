@@ -1,5 +1,7 @@
--- No function of the static library has a second answer: what it returns, and every number, word and byte that it leaves.
+-- No function of the static library has a second answer: what it returns, and every number, word and byte that it leaves. The
+-- search in a batch has none where the batch passes the whole check.
 -- Assumes nothing.
+use mathlib.Core.Path.{_≡_}
 use mathlib.Core.List.{List}
 use Prim.Native.Nat.{ℕ}
 use Rattle.wire.specs.declared.AskAnswer.{AskAnswer}
@@ -10,7 +12,9 @@ use Rattle.laws.specs.Unique.{Unique}
 use Rattle.accumulator.specs.Feeding.{Lent}
 use Rattle.desk.specs.declared.FindAnswer.{FindAnswer}
 use Rattle.desk.specs.Differ.{Answered}
-use Rattle.exports.specs.Calls.{Told, Read, Wrote, Asked, Fed, Took, Found, Compared}
+use Rattle.desk.specs.declared.BatchChecked.the-variants.{Good}
+use Rattle.desk.specs.Batch.{Or, batchCheck}
+use Rattle.exports.specs.Calls.{Told, Read, Wrote, Asked, Fed, Took, Found, Compared, BatchWrote, LastFound}
 
 abbrev pub OneTold : Type 0
 OneTold = (n : Numbered) → Unique (λ (x : ℕ × ℕ). Told n (x .0) (x .1))
@@ -35,3 +39,10 @@ OneFound = (a : FindAnswer) → Unique (λ (x : ℕ × ℕ × ℕ × ℕ). Found
 
 abbrev pub OneCompared : Type 0
 OneCompared = (w : Answered) (list : List ℕ) → Unique (λ (x : ℕ × ℕ × ℕ × ℕ × List ℕ). Compared w list (x .0) (x .1) (x .2) (x .3) (x .4))
+
+abbrev pub OneBatchWrote : Type 0
+OneBatchWrote = (made : Or (List ℕ)) (out : List ℕ) → Unique (λ (x : ℕ × ℕ × List ℕ). BatchWrote made out (x .0) (x .1) (x .2))
+
+abbrev pub OneLast : Type 0
+OneLast = (table batch : List ℕ) (store product : ℕ) → batchCheck table batch ≡ Good
+    → Unique (λ (x : ℕ × ℕ × ℕ × ℕ). LastFound table batch store product (x .0) (x .1) (x .2) (x .3))

@@ -1,6 +1,11 @@
 // The static library for C and Rust: each public call over plain numbers and slices, as include/reystavem.h declares it.
+use desk::BatchChecked;
+use desk::BatchFound;
+use desk::BatchWritten;
 use desk::CompareAnswer;
+use desk::Fault;
 use desk::FindAnswer;
+use desk::Key;
 use wire::AskAnswer;
 use wire::Checked;
 use wire::ReadAnswer;
@@ -12,7 +17,8 @@ ghost use Rattle.wire.specs.Answers.{checkSays, reads, readsStrict, takes, writ
 ghost use Rattle.accumulator.specs.Feeding.{feedLent};
 ghost use Rattle.desk.specs.Path.{finds};
 ghost use Rattle.desk.specs.Differ.{compares};
-ghost use Rattle.exports.specs.Calls.{Told, Counted, Read, Wrote, Asked, Fed, Took, Found, Compared};
+ghost use Rattle.desk.specs.Batch.{faultSays, checkedSays, batchCheck, writes as batchWrites};
+ghost use Rattle.exports.specs.Calls.{Told, Counted, Read, Wrote, Asked, Fed, Took, Found, Compared, BatchWrote, LastFound};
 
 #[no_mangle]
 pub extern "C" fn reystavem_check(table: &[u8], place: &mut u64) -> u64
@@ -269,5 +275,96 @@ pub extern "C" fn reystavem_compare(
             *which = 1;
             numbers::refusal(why)
         }
+    }
+}
+
+// The number of a batch call's refusal; its place is left in the number lent.
+fn tell_fault(fault: Fault, place: &mut u64) -> u64
+    ensures { λ r. ⌜ Told (faultSays fault) r (now (place .exit)) ⌝ }
+{
+    match fault {
+        Fault::Wire { why, place: at } => {
+            *place = at as u64;
+            numbers::refusal(why)
+        }
+        Fault::Fields => {
+            *place = 0;
+            numbers::UNFIT_FIELDS
+        }
+        Fault::Batch => {
+            *place = 0;
+            numbers::BAD_BATCH
+        }
+        Fault::Missing => {
+            *place = 0;
+            numbers::NO_KEY
+        }
+    }
+}
+
+#[no_mangle]
+pub extern "C" fn reystavem_batch_write(
+    table: &[u8],
+    messages: &[u8],
+    store_field: u64,
+    product_field: u64,
+    out: &mut [u8],
+    place: &mut u64,
+) -> u64
+    ensures { λ r. ⌜ BatchWrote (batchWrites (now (table .entry)) (now (messages .entry)) «store_field» «product_field» (length (now (out .entry)))) (now (out .entry)) r (now (place .exit)) (now (out .exit)) ⌝ }
+{
+    let store = store_field as usize;
+    let product = product_field as usize;
+    let got = batch::write(table, messages, store, product, out);
+    match got {
+        BatchWritten::Done { place: end } => {
+            *place = end as u64;
+            0
+        }
+        BatchWritten::Refused { why } => tell_fault(why, place),
+    }
+}
+
+#[no_mangle]
+pub extern "C" fn reystavem_batch_check(table: &[u8], batch: &[u8], place: &mut u64) -> u64
+    ensures { λ r. ⌜ Told (checkedSays (batchCheck (now (table .entry)) (now (batch .entry)))) r (now (place .exit)) ⌝ }
+{
+    let got = batch::check(table, batch);
+    match got {
+        BatchChecked::Good => {
+            *place = 0;
+            0
+        }
+        BatchChecked::Bad { why } => tell_fault(why, place),
+    }
+}
+
+#[no_mangle]
+pub extern "C" fn reystavem_batch_last(
+    table: &[u8],
+    batch: &[u8],
+    store: u64,
+    product: u64,
+    place: &mut u64,
+    from: &mut u64,
+    len: &mut u64,
+) -> u64
+    ensures { λ r. ⌜ LastFound (now (table .entry)) (now (batch .entry)) store product r (now (place .exit)) (now (from .exit)) (now (len .exit)) ⌝ }
+{
+    let key = Key { store, product };
+    let got = batch::last(table, batch, key);
+    *from = 0;
+    *len = 0;
+    match got {
+        BatchFound::Part {
+            from: start,
+            len: size,
+        } => {
+            *place = 0;
+            *from = start as u64;
+            *len = size as u64;
+            0
+        }
+        BatchFound::Refused { why } => tell_fault(why, place),
     }
 }

@@ -14,6 +14,7 @@ pub mod Runs
 pub mod Beside
 pub mod Longer
 pub mod Early
+pub mod Shorter
 pub mod Told
 pub mod Numbering
 pub mod Unique

@@ -36,6 +36,13 @@ pub const ABSENT: u64 = 14;
 // The list that a comparison was lent is too short for its pairs.
 pub const SHORT_LIST: u64 = 15;
 
+// Key fields are unfit for the table; a batch is bad; it has no such key.
+pub const UNFIT_FIELDS: u64 = 17;
+
+pub const BAD_BATCH: u64 = 18;
+
+pub const NO_KEY: u64 = 19;
+
 // 0 for the old table, 1 for the new one.
 pub fn side(side: Side) -> u64
     ensures { λ r. ⌜ r ≡ sideNumber side ⌝ }

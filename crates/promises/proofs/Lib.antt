@@ -23,3 +23,4 @@ pub mod RunsAgain
 pub mod ByteForByte
 pub mod Finding
 pub mod Comparing
+pub mod Batches

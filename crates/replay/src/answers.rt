@@ -1,5 +1,6 @@
 // Asks again what a record asked, and compares the whole of the answer with the record's. HOW.md has
 // the order of a record's parts.
+use crate::nights;
 use desk::CompareAnswer;
 use desk::FindAnswer;
 use recorded::field;
@@ -17,14 +18,14 @@ ghost use Rattle.replay.specs.Told.{Tells, made, which, pairsOrWhich};
 // The room for the words of a store, a value list, a path or a list of pairs, for the bytes of an output and of an accumulator.
 const WORDS: usize = 256 * entry::WORDS;
 
-const OUT: usize = 1024;
+pub const OUT: usize = 1024;
 
 const ROOM: usize = 256;
 
 // What stands in lent memory before a call.
 const BEFORE: u64 = 11936128518282651045;
 
-const BEFORE_BYTE: u8 = 165;
+pub const BEFORE_BYTE: u8 = 165;
 
 // How many bytes are lent behind the work area.
 const BEHIND: usize = 4096;
@@ -38,13 +39,14 @@ pub enum Kind {
     Take,
     Find,
     Compare,
+    Batch,
 }
 
 // The numbers that an answer of any kind begins with: document 01's number, and two more.
-struct Told {
-    number: u64,
-    second: u64,
-    third: u64,
+pub struct Told {
+    pub number: u64,
+    pub second: u64,
+    pub third: u64,
 }
 
 // How many fields a record has.
@@ -58,11 +60,12 @@ pub fn fields(kind: Kind) -> usize {
         Kind::Take => 8,
         Kind::Find => 7,
         Kind::Compare => 8,
+        Kind::Batch => 11,
     }
 }
 
 // Whether the record's first three fields tell the same.
-fn tells(record: &[u8], told: Told) -> bool {
+pub fn tells(record: &[u8], told: Told) -> bool {
     if field::number_at(record, 0) != told.number {
         return false;
     }
@@ -492,5 +495,6 @@ pub fn agrees(kind: Kind, record: &[u8]) -> bool {
         Kind::Take => take_agrees(record),
         Kind::Find => find_agrees(record),
         Kind::Compare => compare_agrees(record),
+        Kind::Batch => nights::agrees(record),
     }
 }

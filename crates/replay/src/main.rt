@@ -1,6 +1,7 @@
 // Replays recorded answers of the oracle: asks the same again, compares the whole of each answer,
 // and writes a line for each kind of request. HOW.md says how the lists were made.
 mod answers;
+mod nights;
 
 use answers::Kind;
 use libc::STDOUT_FILENO;
@@ -93,4 +94,5 @@ fn main() {
     replay(Kind::Take, b"taking");
     replay(Kind::Find, b"finding");
     replay(Kind::Compare, b"comparing");
+    replay(Kind::Batch, b"batching");
 }

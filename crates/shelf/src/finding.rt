@@ -1,45 +1,10 @@
 // One item of a message, by a path in decimal.
+use crate::decimal;
 use desk::FindAnswer;
 use say::say;
 
 // A path has at most so many positions: no chain of a good table is longer.
 const DEEPEST: usize = 256;
-
-// What a word spells: a number, if it is digits alone.
-struct Number {
-    good: bool,
-    value: u64,
-}
-
-fn nothing() -> Number {
-    Number {
-        good: false,
-        value: 0,
-    }
-}
-
-// A number that leaves a word stays as large as it got: no table has so many positions.
-fn decimal(word: &[u8]) -> Number {
-    let mut value = 0u64;
-    let mut i = 0;
-    while i < word.len() {
-        let digit = word[i];
-        if digit < b'0' {
-            return nothing();
-        }
-        if b'9' < digit {
-            return nothing();
-        }
-        if value < 1000000000000000000 {
-            value = 10 * value + (digit - b'0') as u64;
-        }
-        i += 1;
-    }
-    Number {
-        good: 0 < word.len(),
-        value,
-    }
-}
 
 // The path that a command's words spell, so many positions; or they spell none.
 enum Spelled {
@@ -47,15 +12,14 @@ enum Spelled {
     Nothing,
 }
 
-// Puts the path of the command's words from the fifth on in front.
+// Puts the path of the command's words from the fifth on in front. No table has a position that doesn't fit 64 bits, nor one that
+// such a number stays at.
 fn path_of(path: &mut [u64]) -> Spelled {
     let count = os::arg_count();
     let mut depth = 0;
     let mut i = 4;
     while i < count {
-        let mut word = io::buffer();
-        let n = os::arg(i, &mut word);
-        let number = decimal(&word[..n]);
+        let number = decimal::word(i);
         if !number.good {
             return Spelled::Nothing;
         }

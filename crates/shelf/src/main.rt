@@ -1,5 +1,7 @@
-// What a planner runs: shelf table, read, bytes, read-strict, find, compare, changes, append, frames and write, each over files. Without such words it says how to use it.
+// What a planner runs: shelf table, read, bytes, read-strict, find, compare, changes, append, frames, write and batch, each over files. Without such words it says how to use it.
+mod batching;
 mod comparing;
+mod decimal;
 mod files;
 mod finding;
 mod frames;
@@ -18,6 +20,7 @@ enum Verb {
     Append,
     Frames,
     Write,
+    Batch,
     Unknown,
 }
 
@@ -32,7 +35,10 @@ fn say_usage() {
         shelf changes TABLE ONE OTHER       the same in words: each such item with its path, in both messages\n\
         shelf append OLD NEW                does the new table only append to the old one?\n\
         shelf frames FILE                   the messages in a recorded stream of frames\n\
-        shelf write TABLE VALUES POOL OUT   writes the message of a value list\n",
+        shelf write TABLE VALUES POOL OUT   writes the message of a value list\n\
+        shelf batch write TABLE MESSAGES STORE_FIELD PRODUCT_FIELD OUT   writes a night's batch of messages that stand end to end\n\
+        shelf batch check TABLE BATCH       is the batch good? every message and every row\n\
+        shelf batch last TABLE BATCH STORE PRODUCT   the last message of a store and product\n",
     );
 }
 
@@ -67,6 +73,9 @@ fn verb_of(word: &[u8]) -> Verb {
     if check::same(word, b"write") {
         return Verb::Write;
     }
+    if check::same(word, b"batch") {
+        return Verb::Batch;
+    }
     Verb::Unknown
 }
 
@@ -78,6 +87,7 @@ fn fits(verb: Verb, count: usize) -> bool {
         Verb::Find => 4 <= count,
         Verb::Compare | Verb::Changes => count == 5,
         Verb::Write => count == 6,
+        Verb::Batch => batching::fits(count),
         Verb::Unknown => false,
     }
 }
@@ -132,6 +142,7 @@ fn run_on_table(verb: Verb) {
 fn run(verb: Verb) {
     match verb {
         Verb::Frames => frames::run(),
+        Verb::Batch => batching::run(),
         Verb::Unknown => say_usage(),
         _ => run_on_table(verb),
     }

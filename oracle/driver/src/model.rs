@@ -4,6 +4,7 @@
 use crate::compare::{Of, Pair};
 use crate::table::{self, Table};
 use crate::{Entry, ReadAnswer, Refusal};
+use core::ops::Range;
 
 /// 01's two constants for each varint width: most bytes, largest last byte.
 #[derive(Clone, Copy, Debug)]
@@ -336,6 +337,144 @@ pub fn compare(file: &[u8], one: &[u8], other: &[u8], list_words: usize) -> Resu
         return Err((Refusal { no: 15, place: 0 }, Of::Neither));
     }
     Ok(pairs)
+}
+
+/// The entries of the store that a batch's messages are read as with.
+const STORE: usize = 16_384;
+
+/// A message of a batch: its key, its first byte's place and the place behind it.
+struct Nightly {
+    key: [u64; 2],
+    from: usize,
+    to: usize,
+}
+
+fn unfit(table: &Table, fields: [u64; 2]) -> bool {
+    let root = &table.nodes[table.root];
+    let is_of =
+        |field: u64, kind: u8| field < root.kids.len() as u64 && table.nodes[root.kids[field as usize]].kind == kind;
+    root.kind != table::STRUCT || !is_of(fields[0], table::U32) || !is_of(fields[1], table::U64)
+}
+
+/// Reads messages from the first byte to the last, each field by field, so that a key field's entry is the first that it
+/// makes.
+fn nightly(table: &Table, m: &[u8], fields: [u64; 2]) -> Result<Vec<Nightly>, Refusal> {
+    let (mut all, mut from) = (vec![], 0);
+    while from < m.len() {
+        let mut reader = Reader { table, room: STORE, strict: false, entries: vec![] };
+        let (_, mut to) = reader.head(table.root, m, from)?;
+        let mut key = [0; 2];
+        for (field, &kid) in table.nodes[table.root].kids.iter().enumerate() {
+            let first = reader.entries.len();
+            to = reader.item(kid, m, to)?;
+            for i in 0..2 {
+                if fields[i] == field as u64 {
+                    key[i] = reader.entries[first][0];
+                }
+            }
+        }
+        all.push(Nightly { key, from, to });
+        from = to;
+    }
+    Ok(all)
+}
+
+pub fn batch_write(file: &[u8], messages: &[u8], fields: [u64; 2], out_len: usize) -> Result<Vec<u8>, Refusal> {
+    let table = Table::parse(file)?;
+    if unfit(&table, fields) {
+        return Err(Refusal { no: 17, place: 0 });
+    }
+    let all = nightly(&table, messages, fields)?;
+    let most = u64::from(u32::MAX);
+    if 16 * all.len() as u64 > most || all.iter().any(|message| message.from as u64 > most) {
+        return Err(Refusal { no: 18, place: 0 });
+    }
+    let mut rows: Vec<[u64; 3]> = all.iter().map(|m| [m.key[0], m.key[1], m.from as u64]).collect();
+    rows.sort_by_key(|&[store, product, offset]| (store, product, offset));
+    let mut batch = messages.to_vec();
+    let mut put = |x: u64, len: usize| batch.extend(&x.to_le_bytes()[..len]);
+    for [store, product, offset] in rows {
+        put(store, 4);
+        put(product, 8);
+        put(offset, 4);
+    }
+    put(all.len() as u64, 4);
+    put(16 * all.len() as u64, 4);
+    put(fields[0], 2);
+    put(fields[1], 2);
+    if batch.len() > out_len {
+        return Err(Refusal { no: 12, place: 0 });
+    }
+    Ok(batch)
+}
+
+/// A batch whose trailer is good: where the rows begin, the rows (store, product, offset), and the key fields.
+struct Index {
+    start: usize,
+    rows: Vec<[u64; 3]>,
+    fields: [u64; 2],
+}
+
+fn index(table: &Table, batch: &[u8]) -> Result<Index, Refusal> {
+    let bad = Refusal { no: 18, place: 0 };
+    if batch.len() < 12 {
+        return Err(bad);
+    }
+    let end = batch.len() - 12;
+    let little = |p: usize, len: usize| batch[p..p + len].iter().rev().fold(0, |x, &b| x * 256 + u64::from(b));
+    let (count, distance) = (little(end, 4), little(end + 4, 4));
+    let fields = [little(end + 8, 2), little(end + 10, 2)];
+    if unfit(table, fields) {
+        return Err(Refusal { no: 17, place: 0 });
+    }
+    if distance != 16 * count || distance > end as u64 {
+        return Err(bad);
+    }
+    let start = end - distance as usize;
+    let rows = (start..end).step_by(16).map(|p| [little(p, 4), little(p + 4, 8), little(p + 12, 4)]).collect();
+    Ok(Index { start, rows, fields })
+}
+
+/// The messages, if each has one row with its own key and offset, and the rows stand in order; else none.
+fn indexed(table: &Table, batch: &[u8], index: &Index) -> Option<Vec<Nightly>> {
+    let all = nightly(table, &batch[..index.start], index.fields).ok()?;
+    let ordered = index.rows.windows(2).all(|two| two[0] <= two[1]);
+    let own = |m: &Nightly| index.rows.contains(&[m.key[0], m.key[1], m.from as u64]);
+    (ordered && index.rows.len() == all.len() && all.iter().all(own)).then_some(all)
+}
+
+pub fn batch_check(file: &[u8], batch: &[u8]) -> Result<(), Refusal> {
+    let table = Table::parse(file)?;
+    let index = index(&table, batch)?;
+    indexed(&table, batch, &index).map(drop).ok_or(Refusal { no: 18, place: 0 })
+}
+
+/// None where the documents don't fix the answer.
+pub fn batch_last(file: &[u8], batch: &[u8], store: u64, product: u64) -> Option<Result<Range<usize>, Refusal>> {
+    let refused = |no: u8| Some(Err(Refusal { no, place: 0 }));
+    let table = match Table::parse(file) {
+        Ok(table) => table,
+        Err(refusal) => return Some(Err(refusal)),
+    };
+    let index = match index(&table, batch) {
+        Ok(index) => index,
+        Err(refusal) => return Some(Err(refusal)),
+    };
+    let found = index.rows.iter().rfind(|row| row[..2] == [store, product]);
+    let Some(all) = indexed(&table, batch, &index) else {
+        let behind = found.is_some_and(|row| row[2] >= index.start as u64);
+        let ordered = index.rows.windows(2).all(|two| two[0] <= two[1]);
+        return if store >> 32 > 0 {
+            refused(19)
+        } else if ordered && behind {
+            refused(18)
+        } else {
+            None
+        };
+    };
+    let Some(&[.., offset]) = found else { return refused(19) };
+    let message = all.iter().find(|message| message.from as u64 == offset).expect("each row has its message");
+    Some(Ok(message.from..message.to))
 }
 
 /// The shortest varint.

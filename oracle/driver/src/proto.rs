@@ -3,8 +3,9 @@
 use crate::append::{appends, Which};
 use crate::compare::{self, Of, Pair};
 use crate::feed::{feed, ROOM};
-use crate::{find, model, read, strict, write, Entry, ReadAnswer, Refusal};
+use crate::{batch, find, model, read, strict, write, Entry, ReadAnswer, Refusal};
 use core::fmt::Write;
+use core::ops::Range;
 
 pub fn hex(bytes: &[u8]) -> String {
     if bytes.is_empty() {
@@ -80,7 +81,21 @@ fn compare_text(a: &Result<Vec<Pair>, (Refusal, Of)>) -> String {
     }
 }
 
-/// Answers one request line. With `from_document` the crate-free model answers R, S, W, I and C.
+fn check_text(a: &Result<(), Refusal>) -> String {
+    let Refusal { no, place } = a.err().unwrap_or(Refusal { no: 0, place: 0 });
+    format!("{no} {place:x}")
+}
+
+/// `any` where the documents don't fix the answer.
+fn last_text(a: &Option<Result<Range<usize>, Refusal>>) -> String {
+    match a {
+        None => "any".into(),
+        Some(Ok(part)) => format!("0 0 {:x} {:x}", part.start, part.len()),
+        Some(Err(Refusal { no, place })) => format!("{no} {place:x} 0 0"),
+    }
+}
+
+/// Answers one request line. With `from_document` the crate-free model answers R, S, W, I, C, N, K and L.
 pub fn answer(line: &str, from_document: bool) -> Result<String, String> {
     let f: Vec<&str> = line.split_ascii_whitespace().collect();
     match f[..] {
@@ -133,6 +148,19 @@ pub fn answer(line: &str, from_document: bool) -> Result<String, String> {
             let compare = if from_document { model::compare } else { compare::compare };
             let list_words = number(list_words)? as usize;
             Ok(compare_text(&compare(&unhex(table)?, &unhex(one)?, &unhex(other)?, list_words)))
+        }
+        ["N", table, messages, store_field, product_field, out_len] => {
+            let write = if from_document { model::batch_write } else { batch::write };
+            let fields = [number(store_field)?, number(product_field)?];
+            Ok(write_text(&write(&unhex(table)?, &unhex(messages)?, fields, number(out_len)? as usize)))
+        }
+        ["K", table, batch] => {
+            let check = if from_document { model::batch_check } else { batch::check };
+            Ok(check_text(&check(&unhex(table)?, &unhex(batch)?)))
+        }
+        ["L", table, batch, store, product] => {
+            let last = if from_document { model::batch_last } else { batch::last };
+            Ok(last_text(&last(&unhex(table)?, &unhex(batch)?, number(store)?, number(product)?)))
         }
         _ => Err("unknown request".into()),
     }

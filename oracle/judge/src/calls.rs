@@ -1,5 +1,6 @@
 //! One request to both: the library's answer with all lent memory, and the oracle's.
 use crate::area::Area;
+use crate::batches;
 use oracle_driver::append::{appends, Which};
 use oracle_driver::compare::{compare, Of};
 use oracle_driver::feed::{feed, ROOM};
@@ -19,7 +20,7 @@ pub fn same<T: PartialEq + Debug>(what: &str, ours: T, right: T) -> Result<(), D
 }
 
 /// A refusal as document 01's number and place.
-fn numbered(refused: Refused) -> (u8, usize) {
+pub fn numbered(refused: Refused) -> (u8, usize) {
     (refused.why as u8, refused.place)
 }
 
@@ -28,7 +29,7 @@ fn lent(length: usize) -> Vec<u64> {
     (0..length as u64).map(|i| !i.wrapping_mul(0x9e37_79b9_7f4a_7c15)).collect()
 }
 
-fn lent_bytes(length: usize) -> Vec<u8> {
+pub fn lent_bytes(length: usize) -> Vec<u8> {
     lent(length).iter().map(|w| *w as u8).collect()
 }
 
@@ -317,6 +318,14 @@ fn parsed(line: &str, area: &mut Area) -> Result<(&'static str, Result<(), Diffe
         ["I", table, path, message] => finding(&unhex(table)?, &words(path)?, &unhex(message)?),
         ["C", table, one, other, words] => {
             comparing(&unhex(table)?, &unhex(one)?, &unhex(other)?, number(words)? as usize)
+        }
+        ["N", table, messages, store_field, product_field, out] => {
+            let fields = [number(store_field)?, number(product_field)?];
+            batches::writing(&unhex(table)?, &unhex(messages)?, fields, number(out)? as usize)
+        }
+        ["K", table, batch] => batches::checking(&unhex(table)?, &unhex(batch)?),
+        ["L", table, batch, store, product] => {
+            batches::last(&unhex(table)?, &unhex(batch)?, number(store)?, number(product)?)
         }
         _ => return Err("unknown request".into()),
     })

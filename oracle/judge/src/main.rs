@@ -1,17 +1,21 @@
 //! Holds every answer of the proved static library against the oracle: number, place, count, every
 //! word of the store, the rest, every byte of the output and of the work area, the accumulator's array
-//! and message, an item's entry, every word of the list of differences.
+//! and message, an item's entry, every word of the list of differences, a batch's last message.
 //!
 //!   gen SEED COUNT | judge           request lines from stdin (PROTOCOL.md)
 //!   gen SEED COUNT strict | judge    strict reads alone
 //!   gen SEED COUNT find | judge      finds alone
 //!   gen SEED COUNT compare | judge   comparisons alone
+//!   gen SEED COUNT batch | judge     night batches alone
 //!   judge short                      every message of up to two bytes, for each leaf kind and small tables
+//!   judge large                      batches at the edges of their 32-bit fields
 //!
 //! Prints how many requests of each kind were compared, and each difference; exits with 1 if there was one.
 
 mod area;
+mod batches;
 mod calls;
+mod large;
 mod short;
 
 use area::Area;
@@ -62,8 +66,9 @@ fn main() {
     let tally = match std::env::args().nth(1).as_deref() {
         None => lines(),
         Some("short") => short::run(),
+        Some("large") => large::run(),
         Some(_) => {
-            eprintln!("usage: gen SEED COUNT | judge, or judge short");
+            eprintln!("usage: gen SEED COUNT | judge, judge short, or judge large");
             std::process::exit(2)
         }
     };

@@ -1,7 +1,8 @@
 //! Every message of up to two bytes, for each leaf kind and a set of small tables, with stores from no
 //! entry to more than enough, and words over, plainly and strictly; every taking from every place; what
-//! short paths lead to; and every two messages of up to one byte beside each other.
-use crate::{calls, Tally};
+//! short paths lead to; every two messages of up to one byte beside each other; and what a batch is written of every
+//! message.
+use crate::{batches, calls, Tally};
 use oracle_driver::table::Table;
 
 /// A table of records (kind, a, b) and a child list, whose root is the last node.
@@ -67,6 +68,11 @@ pub fn run() -> Tally {
                 tally.note("taking", outcome, || format!("kind {kind}, {message:02x?} at {place}"));
             }
         }
+    }
+    let pair = table(&[(7, 0, 0), (8, 0, 0), (18, 0, 2)], &[0, 1]);
+    for message in messages() {
+        let (kind, outcome) = batches::writing(&pair, &message, [0, 1], 32);
+        tally.note(kind, outcome, || format!("{message:02x?}"));
     }
     let short: Vec<Vec<u8>> = messages().take_while(|message| message.len() < 2).collect();
     for table in &tables {

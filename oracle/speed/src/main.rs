@@ -5,11 +5,13 @@
 //!   speed messages   reading and writing
 //!   speed paths      one field by its path, beside a full read
 //!   speed pairs      two messages side by side, beside a read of one
+//!   speed batch      night batches of a million messages, beside plain Rust
 //!   speed question   the append question on shapes that grow by doubling
 //!   speed warehouse  tables of the second form: small, full, and the worst pairs; the last takes minutes
 //!   speed stack      how deep the stack is under the longest chain
 //!   speed frames     the accumulator
 
+mod batch;
 mod frames;
 mod leaves;
 mod messages;
@@ -27,6 +29,7 @@ fn main() {
         ("messages", messages::report),
         ("paths", paths::report),
         ("pairs", pairs::report),
+        ("batch", batch::report),
         ("question", question::report),
         ("warehouse", warehouse::report),
         ("stack", stack::report),

@@ -19,23 +19,8 @@ arg-count-requires c κs = search needs
 loop-holds : tie.Need-loop-holds Inv-loop μ-loop
 loop-holds c = search needs
 
-buffer-requires : tie.Need-buffer-requires Inv-loop μ-loop
-buffer-requires c κs = search needs
-
-slice-aggregate-arg : tie.Need-slice-aggregate-arg Inv-loop μ-loop
-slice-aggregate-arg c = search needs
-
-arg-requires : tie.Need-arg-requires Inv-loop μ-loop
-arg-requires c κs = search needs
-
-array-share-prefix-word : tie.Need-array-share-prefix-word Inv-loop μ-loop
-array-share-prefix-word c = search needs
-
-slice-aggregate-decimal : tie.Need-slice-aggregate-decimal Inv-loop μ-loop
-slice-aggregate-decimal c = search needs
-
-decimal-requires : tie.Need-decimal-requires Inv-loop μ-loop
-decimal-requires c κs = search needs
+word-requires : tie.Need-word-requires Inv-loop μ-loop
+word-requires c κs = search needs
 
 same-length : tie.Need-same-length Inv-loop μ-loop
 same-length c = search needs
@@ -81,12 +66,7 @@ path-of-spec =
     μ-loop
     arg-count-requires
     loop-holds
-    buffer-requires
-    slice-aggregate-arg
-    arg-requires
-    array-share-prefix-word
-    slice-aggregate-decimal
-    decimal-requires
+    word-requires
     same-length
     returns
     same-length-2

@@ -1,8 +1,10 @@
 //! `gen SEED COUNT` prints COUNT request lines for `oracle` (PROTOCOL.md), always the same
 //! ones for the same seed: first a fixed part of edge cases, then random rounds.
 //! `gen SEED COUNT strict` prints strict reads alone; more than a third of their answers are 16.
-//! `gen SEED COUNT find` prints finds alone, `gen SEED COUNT compare` comparisons.
+//! `gen SEED COUNT find` prints finds alone, `gen SEED COUNT compare` comparisons, `gen SEED COUNT batch` the three
+//! questions about night batches.
 
+mod batches;
 mod edges;
 mod forms;
 mod padded;
@@ -25,8 +27,9 @@ fn main() {
         [seed, count, "strict"] => (seed, count, Stream::Strict),
         [seed, count, "find"] => (seed, count, Stream::Find),
         [seed, count, "compare"] => (seed, count, Stream::Compare),
+        [seed, count, "batch"] => (seed, count, Stream::Batch),
         _ => {
-            eprintln!("usage: gen SEED COUNT [strict|find|compare]");
+            eprintln!("usage: gen SEED COUNT [strict|find|compare|batch]");
             std::process::exit(2)
         }
     };
@@ -49,6 +52,8 @@ enum Stream {
     Strict,
     Find,
     Compare,
+    /// Batches written, checked and searched.
+    Batch,
 }
 
 struct Gen {
@@ -109,6 +114,17 @@ impl Gen {
         self.line('C', format_args!("{} {} {} {words:x}", hex(file), hex(one), hex(other)))
     }
 
+    /// A batch of messages laid end to end, in an output of so many bytes.
+    fn batch_write(&mut self, file: &[u8], messages: &[u8], [store, product]: [u64; 2], out_len: usize) -> Go {
+        self.line('N', format_args!("{} {} {store:x} {product:x} {out_len:x}", hex(file), hex(messages)))
+    }
+    fn batch_check(&mut self, file: &[u8], batch: &[u8]) -> Go {
+        self.line('K', format_args!("{} {}", hex(file), hex(batch)))
+    }
+    fn batch_last(&mut self, file: &[u8], batch: &[u8], store: u64, product: u64) -> Go {
+        self.line('L', format_args!("{} {} {store:x} {product:x}", hex(file), hex(batch)))
+    }
+
     /// The words of entries that say of their items whatever place.
     fn placed(&mut self, items: &[[u64; 2]]) -> Vec<u64> {
         items.iter().flat_map(|&[w0, w1]| [w0, w1, self.any_place()]).collect()
@@ -132,6 +148,7 @@ impl Gen {
             }
             Stream::Find => self.paths_at_the_edge()?,
             Stream::Compare => self.pairs_at_the_edge()?,
+            Stream::Batch => self.batches_at_the_edge()?,
         }
         self.rng = Rng(seed);
         loop {
@@ -140,6 +157,7 @@ impl Gen {
                 Stream::Strict => self.strict_round()?,
                 Stream::Find => self.find_round()?,
                 Stream::Compare => self.compare_round()?,
+                Stream::Batch => self.batch_round()?,
             }
         }
     }

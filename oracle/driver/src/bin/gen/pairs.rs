@@ -11,7 +11,7 @@ use oracle_driver::table::*;
 use oracle_driver::{Entry, ENTRIES};
 
 /// Writes the same values, varints and chars in longer forms now and then.
-struct Longer<'r>(&'r mut Rng);
+pub struct Longer<'r>(pub &'r mut Rng);
 
 impl Style for Longer<'_> {
     fn varint(&mut self, Width(most, _): Width, value: u64) -> Vec<u8> {

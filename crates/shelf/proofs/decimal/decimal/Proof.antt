@@ -1,23 +1,23 @@
--- `shelf::finding::decimal` is safe and ends: each byte of the word is looked at once, and a number stops growing before it leaves a word.
+-- `shelf::decimal::decimal` is safe and ends: each byte of the word is looked at once, and a number stops growing before it leaves a word.
 -- Assumes nothing.
 use Prim.Native.Nat.{_-_}
 use native.Mathlib.Omega.{arith}
 use lib.ListN.{length}
 use borrow.Author.Needs.{needs}
-use Rattle.shelf.proofs.finding.decimal.Statement.{statement}
-use Rattle.shelf.proofs.finding.decimal.Tie as tie
+use Rattle.shelf.proofs.decimal.decimal.Statement.{statement}
+use Rattle.shelf.proofs.decimal.decimal.Tie as tie
 
 abbrev Inv-loop : tie.InvT-loop
-Inv-loop word value₀ i₀ value i = Unit {0}
+Inv-loop word value₀ fits₀ i₀ value fits i = Unit {0}
 
 abbrev μ-loop : tie.MeasureT-loop
-μ-loop word value₀ i₀ value i = length word - i
+μ-loop word value₀ fits₀ i₀ value fits i = length word - i
 
 loop-holds : tie.Need-loop-holds Inv-loop μ-loop
 loop-holds c = search needs
 
-shared-slice-read-digit : tie.Need-shared-slice-read-digit Inv-loop μ-loop
-shared-slice-read-digit c = search needs
+shared-slice-read-sign : tie.Need-shared-slice-read-sign Inv-loop μ-loop
+shared-slice-read-sign c = search needs
 
 nothing-requires : tie.Need-nothing-requires Inv-loop μ-loop
 nothing-requires c κs = search needs
@@ -31,11 +31,14 @@ nothing-requires-2 c κs = search needs
 returns-2 : tie.Need-returns-2 Inv-loop μ-loop
 returns-2 c = search needs
 
+cast-digit : tie.Need-cast-digit Inv-loop μ-loop
+cast-digit c = omega arith
+
+sub-if3 : tie.Need-sub-if3 Inv-loop μ-loop
+sub-if3 c = omega arith
+
 mul-value : tie.Need-mul-value Inv-loop μ-loop
 mul-value c = omega arith
-
-cast-value : tie.Need-cast-value Inv-loop μ-loop
-cast-value c = omega arith
 
 add-value : tie.Need-add-value Inv-loop μ-loop
 add-value c = omega arith
@@ -59,13 +62,14 @@ decimal-spec =
     Inv-loop
     μ-loop
     loop-holds
-    shared-slice-read-digit
+    shared-slice-read-sign
     nothing-requires
     returns
     nothing-requires-2
     returns-2
+    cast-digit
+    sub-if3
     mul-value
-    cast-value
     add-value
     add-i
     loop-less

@@ -1,0 +1,4 @@
+-- What the contracts of the batch calls cite.
+pub mod Opened
+pub mod Writing
+pub mod Promise

@@ -1,0 +1,8 @@
+-- What is promised of night batches, and what the code of their calls stands on.
+pub mod Fit
+pub mod Reads
+pub mod Good
+pub mod Sorted
+pub mod Search
+pub mod Laws
+pub mod Words

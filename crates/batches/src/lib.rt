@@ -1,0 +1,1 @@
+// What follows for night batches: laws about desk's definitions, which the batch calls stand on. It has no code.

@@ -1,0 +1,2 @@
+-- What the contracts of laying a batch out cite.
+pub mod Counts

@@ -1,0 +1,3 @@
+-- What the contracts of messages end to end cite.
+pub mod Fields
+pub mod Steps

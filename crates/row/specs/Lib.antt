@@ -1,0 +1,2 @@
+-- What the contracts of rows in memory cite.
+pub mod Ranks

@@ -1,0 +1,2 @@
+-- What the contracts of the searches cite.
+pub mod Places

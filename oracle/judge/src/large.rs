@@ -1,0 +1,74 @@
+//! Batches at the edges of their 32-bit fields, as document 02 says: an offset, a count and a distance that just fit and
+//! that just don't. The oracle isn't asked. The bytes lent are zero and hardly any of them is looked at, so that they take
+//! addresses and no memory.
+use crate::batches::{check_in_c, last_in_c, write_in_c};
+use crate::calls::same;
+use crate::Tally;
+use oracle_driver::batch::{Row, Trailer};
+use oracle_driver::model::shortest;
+use oracle_driver::table::{Node, Table, BYTES, STRUCT, U32, U64};
+
+/// A struct of a store, a product and maybe bytes.
+fn table(kinds: &[u8]) -> Vec<u8> {
+    let mut nodes: Vec<Node> = kinds.iter().map(|&kind| Node { kind, kids: vec![] }).collect();
+    nodes.push(Node { kind: STRUCT, kids: (0..kinds.len()).collect() });
+    Table { root: kinds.len(), nodes }.file()
+}
+
+/// A message of so many bytes, of store 0 and product 0, with zeros; and behind it these bytes.
+fn long(len: usize, behind: &[u8]) -> Vec<u8> {
+    let mut message = vec![0; len + behind.len()];
+    // Store, product, and five bytes of the length of what follows.
+    let count = shortest(len as u64 - 7);
+    assert_eq!(count.len(), 5);
+    message[2..7].copy_from_slice(&count);
+    message[len..].copy_from_slice(behind);
+    message
+}
+
+fn index(rows: &[Row]) -> Vec<u8> {
+    let trailer = Trailer { count: rows.len() as u32, distance: 16 * rows.len() as u32, fields: [0, 1] };
+    let rows: Vec<u8> = rows.iter().flat_map(Row::bytes).collect();
+    [&rows[..], &trailer.bytes()].concat()
+}
+
+pub fn run() -> Tally {
+    let mut tally = Tally::default();
+    let (short, wide) = (table(&[U32, U64]), table(&[U32, U64, BYTES]));
+    let (full, bad) = ((12, 0), (18, 0));
+
+    // Two bytes a message. The distance is 2^32 with 2^28 of them.
+    for (count, right) in [((1 << 28) - 1, full), (1 << 28, bad)] {
+        let ours = write_in_c(&short, &vec![0; 2 * count], [0, 1], &mut []);
+        tally.note("batch not written", same("number and place", ours, right), || format!("{count} messages"));
+    }
+
+    // A second message, of store 1 and product 1, that begins at just 2^32 - 1, or one byte later.
+    let second = [1, 1, 0];
+    for (offset, right) in [((1 << 32) - 1, full), (1 << 32, bad)] {
+        let ours = write_in_c(&wide, &long(offset, &second), [0, 1], &mut []);
+        tally.note("batch not written", same("number and place", ours, right), || format!("a message at {offset}"));
+    }
+    let first = Row { key: (0, 0), offset: 0 };
+    for (offset, right) in [((1 << 32) - 1, (0, 0)), (1 << 32, bad)] {
+        let behind = [&second[..], &index(&[first, Row { key: (1, 1), offset: offset as u32 }])].concat();
+        let batch = long(offset, &behind);
+        let ours = check_in_c(&wide, &batch);
+        tally.note("batch checked", same("number and place", ours, right), || format!("a message at {offset}"));
+        if right.0 == 0 {
+            for (store, from, len) in [(0, 0, offset), (1, offset, 3)] {
+                let right = (0, [0, from as u64, len as u64]);
+                let ours = last_in_c(&wide, &batch, store, store);
+                tally.note("last found", same("number, place, from and len", ours, right), || format!("store {store}"));
+            }
+        }
+    }
+
+    // One message longer than any offset.
+    let batch = long((1 << 32) + 5, &index(&[first]));
+    tally.note("batch checked", same("number and place", check_in_c(&wide, &batch), (0, 0)), || "one".into());
+    let right = (0, [0, 0, (1 << 32) + 5]);
+    let ours = last_in_c(&wide, &batch, 0, 0);
+    tally.note("last found", same("number, place, from and len", ours, right), || "one".into());
+    tally
+}

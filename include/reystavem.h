@@ -146,6 +146,15 @@ uint64_t reystavem_batch_last(const uint8_t *table, size_t table_len,
                               uint64_t store, uint64_t product,
                               uint64_t *place, uint64_t *from, uint64_t *len);
 
+/* Writes a new batch that holds, for each store and product, only the last message of a batch, its bytes as
+ * they were, in the old order, with rows of its own. Every reystavem_batch_last is answered with the same
+ * bytes before and after, and doing it again changes nothing; the new batch is never the longer one. *place:
+ * bytes written, or the place of the refusal. Refusals: as reystavem_batch_check's, then 12. On a refusal the
+ * output is unchanged, on 0 only the bytes written changed. */
+uint64_t reystavem_batch_compact(const uint8_t *table, size_t table_len,
+                                 const uint8_t *batch, size_t batch_len,
+                                 uint8_t *out, size_t out_len, uint64_t *place);
+
 #ifdef __cplusplus
 }
 #endif

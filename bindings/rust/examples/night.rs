@@ -3,6 +3,7 @@
 //!   night write TABLE MESSAGES STORE_FIELD PRODUCT_FIELD OUT   a batch of messages laid end to end
 //!   night check TABLE BATCH                                    whether a batch is good
 //!   night last TABLE BATCH STORE PRODUCT                       the last message's bytes, to stdout
+//!   night compact TABLE BATCH OUT                              a batch of the last messages only
 //!
 //! Exit status: 0 done; 1 refused, with number and place on stderr; 2 usage, or a file that can't be had. A refused
 //! writing leaves no file, and one that was there as it was.
@@ -134,6 +135,10 @@ fn run(words: &[&str]) -> Result<(), Failed> {
             let message = reystavem::batch_last(&table, &batch, number(store)?, number(product)?)?;
             io::stdout().write_all(message).map_err(|error| Failed::File("stdout".into(), error))
         }
+        ["compact", table, batch, out] => {
+            let (table, batch) = (Mapped::open(table)?, Mapped::open(batch)?);
+            written(out, batch.len(), |out| reystavem::batch_compact(&table, &batch, out))
+        }
         ["make", count, out] => make(number(count)?, out).map_err(|error| Failed::File(out.to_string(), error)),
         _ => Err(Failed::Usage),
     }
@@ -173,6 +178,7 @@ fn main() -> ExitCode {
             eprintln!("night write TABLE MESSAGES STORE_FIELD PRODUCT_FIELD OUT");
             eprintln!("night check TABLE BATCH");
             eprintln!("night last TABLE BATCH STORE PRODUCT");
+            eprintln!("night compact TABLE BATCH OUT");
         }
     }
     ExitCode::from(2)

@@ -131,6 +131,15 @@ mod ffi {
             from: *mut u64,
             len: *mut u64,
         ) -> u64;
+        pub fn reystavem_batch_compact(
+            table: *const u8,
+            table_len: usize,
+            batch: *const u8,
+            batch_len: usize,
+            out: *mut u8,
+            out_len: usize,
+            place: *mut u64,
+        ) -> u64;
     }
 }
 
@@ -680,6 +689,31 @@ pub fn batch_last<'b>(table: &[u8], batch: &'b [u8], store: u64, product: u64) -
     };
     match number {
         0 => Ok(&batch[from as usize..][..len as usize]),
+        _ => Err(refused(number, place)),
+    }
+}
+
+/// Writes a batch that holds, of each store and product, only the last message, its bytes as they were, in the old order,
+/// with rows made afresh. How many bytes were written; the batch's own length is always enough.
+///
+/// Every last message is the same afterwards, and another compaction changes nothing. A batch is refused as by
+/// `batch_check`, before the output is looked at, and on a refusal that is unchanged.
+pub fn batch_compact(table: &[u8], batch: &[u8], out: &mut [u8]) -> Result<usize, Refused> {
+    let mut place = 0;
+    // SAFETY: each slice is lent with its own length; `out` is borrowed for us alone.
+    let number = unsafe {
+        ffi::reystavem_batch_compact(
+            table.as_ptr(),
+            table.len(),
+            batch.as_ptr(),
+            batch.len(),
+            out.as_mut_ptr(),
+            out.len(),
+            &mut place,
+        )
+    };
+    match number {
+        0 => Ok(place as usize),
         _ => Err(refused(number, place)),
     }
 }

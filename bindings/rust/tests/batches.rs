@@ -1,4 +1,4 @@
-//! Night batches, through the static library: written, checked, and searched for a last message.
+//! Night batches, through the static library: written, checked, searched for a last message, and compacted.
 use reystavem::samples::TABLE_T;
 use reystavem::*;
 
@@ -124,4 +124,40 @@ fn a_search_refuses_a_bad_trailer_and_an_offset_that_is_not_before_the_rows() {
     let mut offset = night();
     offset[77] = 17;
     assert_eq!(batch_last(TABLE_T, &offset, 300, 5), Err(at_the_front(Why::Batch)));
+}
+
+#[test]
+fn compacted_it_has_the_last_messages_only() {
+    // Of the two messages of (300, 5) the first goes.
+    let mut right = [7; LEN];
+    let len = batch_write(TABLE_T, &MESSAGES[4..], 0, 1, &mut right).unwrap();
+    let (before, mut after) = (night(), [7; LEN]);
+    assert_eq!(batch_compact(TABLE_T, &before, &mut after), Ok(len));
+    assert_eq!(after, right);
+    let after = &after[..len];
+    for (store, product) in [(300, 5), (300, 4), (7, 5), (7, 4), (300 + (1 << 32), 5)] {
+        let [one, other] = [&before, after].map(|batch| batch_last(TABLE_T, batch, store, product));
+        assert_eq!(one, other);
+    }
+    let mut again = vec![7; len];
+    assert_eq!(batch_compact(TABLE_T, after, &mut again), Ok(len));
+    assert_eq!(again, after);
+}
+
+#[test]
+fn a_refused_compaction_leaves_the_output() {
+    let mut swapped = night();
+    swapped[17..49].rotate_left(16);
+    let compacted = |batch: &[u8], len: usize| {
+        let mut out = [7; LEN];
+        let answer = batch_compact(TABLE_T, batch, &mut out[..len]);
+        assert_eq!(out, [7; LEN]);
+        answer
+    };
+    assert_eq!(compacted(&night(), LEN - 21), Err(at_the_front(Why::Full)));
+    assert_eq!(compacted(&swapped, 0), Err(at_the_front(Why::Batch)));
+    assert_eq!(compacted(&night()[LEN - 11..], 0), Err(at_the_front(Why::Batch)));
+    let mut unfit = night();
+    unfit[LEN - 4] = 1;
+    assert_eq!(compacted(&unfit, 0), Err(at_the_front(Why::Fields)));
 }

@@ -3,4 +3,5 @@ pub mod Opening
 pub mod Parts
 pub mod Checking
 pub mod Writing
+pub mod Compacting
 pub mod Promise

@@ -4,7 +4,7 @@ use mathlib.Core.Path.{_≡_, refl, sym, ap, _∙_, subst}
 use mathlib.Core.Bool.{Bool, true, false, not}
 use mathlib.Core.List.{List, _++_}
 use Prim.Native.Nat.{ℕ, _+_, _-_, _*_, _^_, _≤_, _<_}
-use lib.ListN.{length, take, drop, length-append}
+use lib.ListN.{length, take, drop}
 use lib.Seq.{length-take-le}
 use lib.Dec.{ltb}
 use borrow.Author.Tests.{ltb-true, le-leb, lt-leb}
@@ -20,13 +20,12 @@ use Rattle.desk.specs.declared.Fault.{Fault}
 use Rattle.desk.specs.declared.Fault.the-variants.{Wire, Fields as BadFields, Batch as BadBatch}
 use Rattle.desk.specs.declared.BatchWritten.{BatchWritten}
 use Rattle.desk.specs.declared.BatchWritten.the-variants.{Done, Refused}
-use Rattle.desk.specs.Rows.{sort, rowsBytes}
-use Rattle.desk.specs.Messages.{Keyed, Message, Split, whole, split, joined, rowsOf}
+use Rattle.desk.specs.Messages.{Keyed, Message, Split, whole, split, rowsOf}
 use Rattle.desk.specs.Batch.{Or, so, fault, after, shapeBy, tabled, keyed, inRoom, trailer, batchOf, splitBy, offsetsFit, sized, writes, writtenAnswer, outWith}
 use Rattle.batches.specs.Reads.{Reads}
 use Rattle.batches.proofs.Ends.{split-reads, reads-joined}
 use Rattle.batches.proofs.Keys.{rows-fit}
-use Rattle.batches.proofs.Bytes.{length-rows, length-sort, length-rowsOf, length-trailer}
+use Rattle.batches.proofs.Compacting.{length-batch}
 use Rattle.messages.specs.declared.Fields.{Fields}
 use Rattle.messages.specs.declared.Found.{Found}
 use Rattle.messages.specs.declared.Found.the-variants.{At, Unfit}
@@ -39,15 +38,8 @@ use Rattle.batch.specs.Writing.{Writes, Fitting, madeBy}
 use Rattle.batch.proofs.Opening.{not-true, not-false}
 
 -- a refusal leaves the output
-refuses : {made : Or (List ℕ)} {out : List ℕ} {why : Fault} → made ≡ fault why → Writes made out (Refused why) out
-refuses e = record { answered = unfold writtenAnswer in rw e; stored = unfold outWith in rw e }
-
-length-batch : (k : Keyed) (ms : List Message) → length (batchOf k ms) ≡ length (joined ms) + (16 * length ms + 12)
-unfolding batchOf
-length-batch k ms =
-    length-append (joined ms) (rowsBytes (sort (rowsOf 0 ms)) ++ trailer (length ms) k)
-    ∙ ap (λ n. length (joined ms) + n) (length-append (rowsBytes (sort (rowsOf 0 ms))) (trailer (length ms) k)
-    ∙ rw (length-rows (sort (rowsOf 0 ms)), length-sort (rowsOf 0 ms), length-rowsOf 0 ms, length-trailer (length ms) k))
+pub unwritten : {made : Or (List ℕ)} {out : List ℕ} {why : Fault} → made ≡ fault why → Writes made out (Refused why) out
+unwritten e = record { answered = unfold writtenAnswer in rw e; stored = unfold outWith in rw e }
 
 module _ {table : List ℕ} {l : Layout} {f : Fields} {store product : ℕ} (fit : Fitting table l f store product) (bytes out : List ℕ) where
   abbrev k : Keyed
@@ -61,7 +53,7 @@ module _ {table : List ℕ} {l : Layout} {f : Fields} {store product : ℕ} (fit
   made-stops e breaks = rw e (unfold splitBy after in refl)
 
   pub write-stops : {r : Counted} {why : Refusal} {p : ℕ} → Counts (split k bytes) r → r ≡ Stopped why p → Writes made out (Refused (Wire why p)) out
-  write-stops c q = refuses (made-stops refl (rw q at c))
+  write-stops c q = unwritten (made-stops refl (rw q at c))
 
   record Ready (n last : ℕ) : Type 0 where
     ms : List Message
@@ -85,7 +77,7 @@ module _ {table : List ℕ} {l : Layout} {f : Fields} {store product : ℕ} (fit
     made-sized = rw (rd .is) (unfold splitBy after in refl)
 
     pub write-large : {t : Bool} → t ≡ both (ltb last (2 ^ 32)) (both (ltb n (2 ^ 32)) (ltb (16 * n) (2 ^ 32))) → not t ≡ true → Writes made out (Refused BadBatch) out
-    write-large e z = refuses (made-sized ∙ (unfold sized pick after in rw (sym (size-test e) ∙ not-true z)))
+    write-large e z = unwritten (made-sized ∙ (unfold sized pick after in rw (sym (size-test e) ∙ not-true z)))
 
     module _ {t : Bool} (e : t ≡ both (ltb last (2 ^ 32)) (both (ltb n (2 ^ 32)) (ltb (16 * n) (2 ^ 32)))) (z : not t ≡ false) where
       pub write-few : 16 * n < 2 ^ 32
@@ -101,7 +93,7 @@ module _ {table : List ℕ} {l : Layout} {f : Fields} {store product : ℕ} (fit
       size = length-batch k (rd .ms) ∙ rw (reads-joined reads, rd .many)
 
       pub write-full : length out < length bytes + (16 * n + 12) → Writes made out (Refused (Wire Full 0)) out
-      write-full h = refuses (made-room ∙ (unfold inRoom pick in rw (size, lt-leb (length bytes + (16 * n + 12)) (length out) h)))
+      write-full h = unwritten (made-room ∙ (unfold inRoom pick in rw (size, lt-leb (length bytes + (16 * n + 12)) (length out) h)))
 
       pub write-laid : length bytes + (16 * n + 12) ≤ length out → Laid (split k bytes) bytes n (take (length bytes + (16 * n + 12)) out)
       write-laid h =
@@ -141,7 +133,7 @@ module _ (table bytes : List ℕ) (store product : ℕ) (out : List ℕ) where
   all = writes table bytes store product (length out)
 
   pub write-table : {c : Checked} {why : Refusal} {i : ℕ} → c ≡ check table → c ≡ BadTable why i → Writes all out (Refused (Wire why i)) out
-  write-table e q = refuses (unfold writes tabled shapeBy after in rw (sym e ∙ q))
+  write-table e q = unwritten (unfold writes tabled shapeBy after in rw (sym e ∙ q))
 
   module _ {l : Layout} {c : Checked} (e : c ≡ check table) (q : c ≡ GoodTable l) where
     by-keys : all ≡ after (keyed (record { shape = shapeOf table l; store = store; product = product })) (λ k. after (splitBy (split k bytes)) (λ ms. after (sized ms) (λ ms. inRoom (length out) (batchOf k ms))))
@@ -151,7 +143,7 @@ module _ (table bytes : List ℕ) (store product : ℕ) (out : List ℕ) where
     write-unfit {r} s a = go (rw a at s)
       where
         go : Finds table l store product Unfit → Writes all out (Refused BadFields) out
-        go (unfit z) = refuses (by-keys ∙ (unfold keyed pick after in rw z))
+        go (unfit z) = unwritten (by-keys ∙ (unfold keyed pick after in rw z))
 
     pub write-all : {f : Fields} {answer : BatchWritten} {after′ : List ℕ} → Fitting table l f store product → Writes (madeBy table l f bytes (length out)) out answer after′ → Writes all out answer after′
     write-all {f} {answer} {after′} fit w = subst (λ m. Writes m out answer after′) (sym same) w

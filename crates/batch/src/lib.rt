@@ -5,6 +5,7 @@ use desk::BatchWritten;
 use desk::Fault;
 use desk::Key;
 use desk::Row;
+use keeping::Surveyed;
 use laying::Counted;
 use messages::Fields;
 use messages::Found;
@@ -20,9 +21,13 @@ ghost use Rattle.wire.specs.Table.{check as checkOf};
 ghost use Rattle.desk.specs.Rows.{sameKey as sameKeyOf};
 ghost use Rattle.desk.specs.declared.BatchFound.the-variants.{Part};
 ghost use Rattle.desk.specs.Batch.{batchCheck, partOf, writes};
+ghost use Rattle.desk.specs.Compact.{compacts};
 ghost use Rattle.batches.specs.Sorted.{isSorted};
 ghost use Rattle.batches.specs.Search.{Searched};
 ghost use Rattle.row.specs.Ranks.{rowsIn};
+ghost use Rattle.messages.specs.Fields.{KeyedBy};
+ghost use Rattle.keeping.specs.Kept.{partsIn};
+ghost use Rattle.batch.specs.Compacting.{compactedBy};
 ghost use Rattle.batch.specs.Writing.{Fitting, madeBy, Writes};
 ghost use Rattle.batch.specs.Opened.{rowBytesOf, Opens, Parted, Finds, Judges};
 
@@ -285,6 +290,66 @@ pub fn write(
                 return BatchWritten::Refused { why: Fault::Fields };
             };
             write_by(table, layout, fields, bytes, store, product, out)
+        }
+    }
+}
+
+// ---- compaction
+
+// Compacts a batch by its parts, once all of it is judged.
+fn compact_by(
+    table: &[u8],
+    l: Layout,
+    f: Fields,
+    front: &[u8],
+    rows: &[u8],
+    out: &mut [u8],
+) -> BatchWritten
+    requires { ⌜ KeyedBy (now table) l f ⌝ }
+    ensures { λ r. ⌜ Writes (compactedBy (partsIn (now (table .entry)) l f (now (front .entry)) (now (rows .entry))) (length (now (out .entry)))) (now (out .entry)) r (now (out .exit)) ⌝ }
+{
+    if !search::is_sorted(rows) {
+        return BatchWritten::Refused { why: Fault::Batch };
+    }
+    let surveyed = keeping::survey(table, l, f, front, rows);
+    let Surveyed::Good { count, len } = surveyed else {
+        return BatchWritten::Refused { why: Fault::Batch };
+    };
+    let room = out.len();
+    if !keeping::has_room(room, count, len) {
+        let full = Fault::Wire {
+            why: Refusal::Full,
+            place: 0,
+        };
+        return BatchWritten::Refused { why: full };
+    }
+    let total = len + 16 * count + TRAILER;
+    keeping::lay(table, l, f, front, rows, count, len, &mut out[..total]);
+    BatchWritten::Done { place: total }
+}
+
+// Writes a batch of only the last message of each store and product. Nothing is written unless all of it is.
+pub fn compact(table: &[u8], batch: &[u8], out: &mut [u8]) -> BatchWritten
+    ensures { λ r. ⌜ Writes (compacts (now (table .entry)) (now (batch .entry)) (length (now (out .entry)))) (now (out .entry)) r (now (out .exit)) ⌝ }
+{
+    let checked = table::check(table);
+    match checked {
+        Checked::Bad { why, place } => BatchWritten::Refused {
+            why: Fault::Wire { why, place },
+        },
+        Checked::Good { layout } => {
+            let opened = take_apart(table, layout, batch);
+            match opened {
+                Opened::Refused { why } => BatchWritten::Refused { why },
+                Opened::Parts { fields, start, end } => compact_by(
+                    table,
+                    layout,
+                    fields,
+                    &batch[..start],
+                    &batch[start..end],
+                    out,
+                ),
+            }
         }
     }
 }

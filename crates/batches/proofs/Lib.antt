@@ -11,3 +11,6 @@ pub mod Opened
 pub mod Search
 pub mod Found
 pub mod Words
+pub mod Keeping
+pub mod Compacting
+pub mod ByRows

@@ -6,3 +6,4 @@ pub mod Sorted
 pub mod Search
 pub mod Laws
 pub mod Words
+pub mod Compacting

@@ -13,6 +13,7 @@ use Rattle.desk.specs.Path.{finds, findSays, firstOf, secondOf}
 use Rattle.desk.specs.declared.BatchFound.{BatchFound}
 use Rattle.desk.specs.declared.BatchFound.the-variants.{Part as PartFound}
 use Rattle.desk.specs.Differ.{compares, compareAnswer, listAfter, compareSays, whichOf, countOf}
+use Rattle.desk.specs.Compact.{batchCompact, batchCompactOut}
 use Rattle.desk.specs.Batch.{batchWrite, batchWriteOut, batchCheck, batchLast, partOf, writtenSays, checkedSays, foundSays, fromOf, lenOf}
 
 -- ---- one item by its path
@@ -147,6 +148,7 @@ pub data BatchCall : Type 0 where
   checking : (table batch : List ℕ) → BatchCall
   searching : (table batch : List ℕ) (store product : ℕ) → BatchCall
   handing : (batch : List ℕ) (from len : ℕ) → BatchCall
+  compacting : (table batch out : List ℕ) → BatchCall
 
 -- number and place, and the output afterwards, or the part's two numbers and its bytes
 pub record BatchSaid : Type 0 where
@@ -165,6 +167,7 @@ batchAnswer (writing table s store product out) = saying (writtenSays (batchWrit
 batchAnswer (checking table batch) = saying (checkedSays (batchCheck table batch)) []
 batchAnswer (searching table batch store product) = foundPart batch (batchLast table batch (record { store = store; product = product }))
 batchAnswer (handing batch from len) = foundPart batch (PartFound from len)
+batchAnswer (compacting table batch out) = saying (writtenSays (batchCompact table batch out)) (batchCompactOut table batch out)
 
 pub record BatchCase : Type 0 where
   pub call : BatchCall
@@ -225,4 +228,25 @@ batchCases =
     ∷ says (handing (1 ∷ 2 ∷ 3 ∷ []) 1 2) 0 0 (1 ∷ 2 ∷ 2 ∷ 3 ∷ [])
     ∷ says (handing (1 ∷ 2 ∷ 3 ∷ []) 1 3) 0 0 (1 ∷ 3 ∷ [])
     ∷ says (handing (1 ∷ 2 ∷ 3 ∷ []) 4 0) 0 0 (4 ∷ 0 ∷ [])
+    ∷ []
+
+-- ---- compaction
+
+-- the batch above with only the last message of each key: 51 bytes
+unfoldable pub kept : List ℕ
+kept = (7 ∷ 5 ∷ 2 ∷ 0xac ∷ 0x02 ∷ 5 ∷ 6 ∷ []) ++ (seven 5 0 ++ (threeHundred 3 ++ ending 2 32 0 1))
+
+-- a batch of products 6 and 5 of one store, in this order
+unfoldable pub turned : List ℕ
+turned = (7 ∷ 6 ∷ 2 ∷ 7 ∷ 5 ∷ 2 ∷ []) ++ (seven 5 3 ++ (seven 6 0 ++ ending 2 32 0 1))
+
+unfoldable pub compactCases : List BatchCase
+compactCases =
+    -- once, again, and with a byte too few; two keys out of order, each with one message; a batch that the check refuses; none
+    says (compacting tableT night (replicate 52 9)) 0 51 (kept ++ (9 ∷ []))
+    ∷ says (compacting tableT kept (replicate 51 9)) 0 51 kept
+    ∷ says (compacting tableT night (replicate 50 9)) 12 0 (replicate 50 9)
+    ∷ says (compacting tableT turned (replicate 50 9)) 0 50 turned
+    ∷ says (compacting tableT (three ++ (seven 5 4 ++ (threeHundred 7 ++ ending 2 32 0 1))) (replicate 51 9)) 18 0 (replicate 51 9)
+    ∷ says (compacting tableT (ending 0 0 0 1) (replicate 12 9)) 0 12 (ending 0 0 0 1)
     ∷ []

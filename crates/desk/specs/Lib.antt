@@ -4,4 +4,5 @@ pub mod Differ
 pub mod Rows
 pub mod Messages
 pub mod Batch
+pub mod Compact
 pub mod Cases

@@ -18,6 +18,7 @@ ghost use Rattle.accumulator.specs.Feeding.{feedLent};
 ghost use Rattle.desk.specs.Path.{finds};
 ghost use Rattle.desk.specs.Differ.{compares};
 ghost use Rattle.desk.specs.Batch.{faultSays, checkedSays, batchCheck, writes as batchWrites};
+ghost use Rattle.desk.specs.Compact.{compacts};
 ghost use Rattle.exports.specs.Calls.{Told, Counted, Read, Wrote, Asked, Fed, Took, Found, Compared, BatchWrote, LastFound};
 
 #[no_mangle]
@@ -366,5 +367,24 @@ pub extern "C" fn reystavem_batch_last(
             0
         }
         BatchFound::Refused { why } => tell_fault(why, place),
+    }
+}
+
+#[no_mangle]
+pub extern "C" fn reystavem_batch_compact(
+    table: &[u8],
+    batch: &[u8],
+    out: &mut [u8],
+    place: &mut u64,
+) -> u64
+    ensures { λ r. ⌜ BatchWrote (compacts (now (table .entry)) (now (batch .entry)) (length (now (out .entry)))) (now (out .entry)) r (now (place .exit)) (now (out .exit)) ⌝ }
+{
+    let got = batch::compact(table, batch, out);
+    match got {
+        BatchWritten::Done { place: end } => {
+            *place = end as u64;
+            0
+        }
+        BatchWritten::Refused { why } => tell_fault(why, place),
     }
 }

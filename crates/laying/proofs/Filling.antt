@@ -29,12 +29,12 @@ not-whole q = let z : _≡_ {A = ℕ} 0 1 = cc in absurd (omega arith)
 same-whole : {xs ys : List Message} → whole xs ≡ whole ys → xs ≡ ys
 same-whole q = cc
 
-rows-append : (xs ys : List Row) → rowsBytes (xs ++ ys) ≡ rowsBytes xs ++ rowsBytes ys
+pub rows-append : (xs ys : List Row) → rowsBytes (xs ++ ys) ≡ rowsBytes xs ++ rowsBytes ys
 unfolding rowsBytes
 rows-append [] ys = refl
 rows-append (x ∷ xs) ys = rw (rows-append xs ys, append-assoc (rowBytes x) (rowsBytes xs) (rowsBytes ys))
 
-one-row : (r : Row) → rowsBytes (r ∷ []) ≡ rowBytes r
+pub one-row : (r : Row) → rowsBytes (r ∷ []) ≡ rowBytes r
 unfolding rowsBytes
 one-row r = append-nil (rowBytes r)
 

@@ -67,7 +67,7 @@ module _ (rs : List Row) (f : RowsFit rs) where
 -- ---- the three parts
 
 -- a part put behind a front of its size
-put-behind : (a b mid post new : List ℕ) {n m : ℕ} → length a ≡ n → length mid ≡ m → b ≡ a ++ (mid ++ post) → putMid n m b new ≡ a ++ (new ++ post)
+pub put-behind : (a b mid post new : List ℕ) {n m : ℕ} → length a ≡ n → length mid ≡ m → b ≡ a ++ (mid ++ post) → putMid n m b new ≡ a ++ (new ++ post)
 unfolding putMid
 put-behind a b mid post new {n} {m} ea em e = rw (e, take-at a (mid ++ post) n ea, drop-at a (mid ++ post) n ea, drop-at mid post m em)
 

@@ -93,7 +93,7 @@ fn put_quarter(out: &mut [u8], at: usize, x: usize)
 }
 
 // Puts a trailer.
-fn put_trailer(out: &mut [u8], count: u64, store: usize, product: usize)
+pub fn put_trailer(out: &mut [u8], count: u64, store: usize, product: usize)
     requires { ⌜ length (now out) ≡ 12 ⌝ }
     requires { ⌜ 16 * count ≤ 18446744073709551615 ⌝ }
     ensures { λ _. ⌜ now (out .exit) ≡ ending count store product ⌝ }

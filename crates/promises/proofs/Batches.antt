@@ -87,7 +87,7 @@ pub written-holds : WrittenHolds
 unfolding batchWrite batchWriteOut
 written-holds table s f g out n e = holds s out (writes table s f g (length out)) n e (λ batch q. made-of table s f g (length out) batch q)
 
-keeps : (made : Or (List ℕ)) (out : List ℕ) (why : Fault) → writtenAnswer made ≡ NotWritten why → outWith made out ≡ out
+pub keeps : (made : Or (List ℕ)) (out : List ℕ) (why : Fault) → writtenAnswer made ≡ NotWritten why → outWith made out ≡ out
 unfolding writtenAnswer outWith
 keeps (so s) out why e = let z : _≡_ {A = ℕ} 0 1 = cc in absurd (omega arith)
 keeps (fault r) out why e = refl

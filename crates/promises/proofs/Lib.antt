@@ -24,3 +24,4 @@ pub mod ByteForByte
 pub mod Finding
 pub mod Comparing
 pub mod Batches
+pub mod Compacting

@@ -1,4 +1,4 @@
--- What the demands promise of the public answers: of tables of both forms, of a new table beside an old one, of the entries' places, of what is written and read back and when it comes back byte for byte, of the rest, of a skim, of a strict reading, of one item by its path, of two messages side by side, and of night batches.
+-- What the demands promise of the public answers: of tables of both forms, of a new table beside an old one, of the entries' places, of what is written and read back and when it comes back byte for byte, of the rest, of a skim, of a strict reading, of one item by its path, of two messages side by side, of night batches, and of what a compaction keeps of one.
 pub mod Tables
 pub mod OldNew
 pub mod Places
@@ -10,6 +10,7 @@ pub mod ByteForByte
 pub mod Finding
 pub mod Comparing
 pub mod Batches
+pub mod Compacting
 -- Laws that these are proved by, which are no promises.
 pub mod Shapes
 pub mod Telling

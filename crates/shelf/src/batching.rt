@@ -1,4 +1,5 @@
-// Night batches: written from messages that stand end to end, checked whole, and asked for the last message of a store and product.
+// Night batches: written from messages that stand end to end, checked whole, asked for the last message of a store and product,
+// and compacted.
 use crate::decimal;
 use crate::files;
 use crate::shown;
@@ -26,6 +27,7 @@ enum Asked {
     Write,
     Check,
     Last,
+    Compact,
     Unknown,
 }
 
@@ -42,6 +44,9 @@ fn wanted() -> Asked {
     if check::same(name, b"last") {
         return Asked::Last;
     }
+    if check::same(name, b"compact") {
+        return Asked::Compact;
+    }
     Asked::Unknown
 }
 
@@ -51,6 +56,7 @@ pub fn fits(count: usize) -> bool {
         Asked::Write => count == 8,
         Asked::Check => count == 5,
         Asked::Last => count == 7,
+        Asked::Compact => count == 6,
         Asked::Unknown => false,
     }
 }
@@ -146,6 +152,16 @@ fn last(table: &[u8], batch: &[u8]) {
     }
 }
 
+// ---- compaction
+
+fn compact(table: &[u8], batch: &[u8]) {
+    let mut out = batch_room();
+    match batch::compact(table, batch, &mut out) {
+        BatchWritten::Done { place } => files::save(5, front(&out, place)),
+        BatchWritten::Refused { why } => say_fault(why),
+    }
+}
+
 // With the table, the batch that the command's word 4 names.
 fn run_on_batch(asked: Asked, table: &[u8]) {
     let mut room = batch_room();
@@ -155,6 +171,7 @@ fn run_on_batch(asked: Asked, table: &[u8]) {
     if whole {
         match asked {
             Asked::Last => last(table, &room[..len]),
+            Asked::Compact => compact(table, &room[..len]),
             _ => judge(table, &room[..len]),
         }
     }

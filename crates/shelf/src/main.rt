@@ -38,7 +38,8 @@ fn say_usage() {
         shelf write TABLE VALUES POOL OUT   writes the message of a value list\n\
         shelf batch write TABLE MESSAGES STORE_FIELD PRODUCT_FIELD OUT   writes a night's batch of messages that stand end to end\n\
         shelf batch check TABLE BATCH       is the batch good? every message and every row\n\
-        shelf batch last TABLE BATCH STORE PRODUCT   the last message of a store and product\n",
+        shelf batch last TABLE BATCH STORE PRODUCT   the last message of a store and product\n\
+        shelf batch compact TABLE BATCH OUT   writes a batch of only the last message of each store and product\n",
     );
 }
 

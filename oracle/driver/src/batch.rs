@@ -1,5 +1,6 @@
 //! The night batch (T-08): the crate reads the messages from the front, each as with a store of 16,384 entries, and rows
-//! and trailer are laid out from what it read. A batch is good if it comes out as it was.
+//! and trailer are laid out from what it read. A batch is good if it comes out as it was. Compacted (T-13) it is written
+//! of the messages that no later one has the key of.
 
 use crate::table::{Table, STRUCT, U32, U64};
 use crate::{read, Entry, Refusal, ENTRIES};
@@ -194,4 +195,12 @@ pub fn last(file: &[u8], batch: &[u8], store: u64, product: u64) -> Option<Resul
     let index: Vec<Row> = batch[rows..batch.len() - Trailer::LEN].chunks(Row::LEN).map(Row::of).collect();
     let found = index.iter().filter(|row| row.key == key).last()?;
     (index.is_sorted() && found.offset as usize >= rows).then_some(Err(BAD))
+}
+
+/// A batch of each key's last message only, in the old order, in an output of so many bytes.
+pub fn compact(file: &[u8], batch: &[u8], out_len: usize) -> Result<Vec<u8>, Refusal> {
+    let (messages, fields) = checked(&Table::parse(file)?, batch)?;
+    let is_last = |i: usize| messages[i + 1..].iter().all(|later| later.key != messages[i].key);
+    let kept = (0..messages.len()).filter(|&i| is_last(i)).map(|i| &batch[messages[i].at.clone()]);
+    write(file, &kept.collect::<Vec<&[u8]>>().concat(), fields, out_len)
 }

@@ -389,23 +389,28 @@ pub fn batch_write(file: &[u8], messages: &[u8], fields: [u64; 2], out_len: usiz
     if 16 * all.len() as u64 > most || all.iter().any(|message| message.from as u64 > most) {
         return Err(Refusal { no: 18, place: 0 });
     }
-    let mut rows: Vec<[u64; 3]> = all.iter().map(|m| [m.key[0], m.key[1], m.from as u64]).collect();
-    rows.sort_by_key(|&[store, product, offset]| (store, product, offset));
-    let mut batch = messages.to_vec();
-    let mut put = |x: u64, len: usize| batch.extend(&x.to_le_bytes()[..len]);
-    for [store, product, offset] in rows {
-        put(store, 4);
-        put(product, 8);
-        put(offset, 4);
-    }
-    put(all.len() as u64, 4);
-    put(16 * all.len() as u64, 4);
-    put(fields[0], 2);
-    put(fields[1], 2);
+    let rows = all.iter().map(|m| [m.key[0], m.key[1], m.from as u64]).collect();
+    let batch = with_index(messages.to_vec(), rows, fields);
     if batch.len() > out_len {
         return Err(Refusal { no: 12, place: 0 });
     }
     Ok(batch)
+}
+
+/// Messages with their rows, which need not be in order yet, and the trailer.
+fn with_index(mut batch: Vec<u8>, mut rows: Vec<[u64; 3]>, fields: [u64; 2]) -> Vec<u8> {
+    rows.sort_by_key(|&[store, product, offset]| (store, product, offset));
+    let mut put = |x: u64, len: usize| batch.extend(&x.to_le_bytes()[..len]);
+    for &[store, product, offset] in &rows {
+        put(store, 4);
+        put(product, 8);
+        put(offset, 4);
+    }
+    put(rows.len() as u64, 4);
+    put(16 * rows.len() as u64, 4);
+    put(fields[0], 2);
+    put(fields[1], 2);
+    batch
 }
 
 /// A batch whose trailer is good: where the rows begin, the rows (store, product, offset), and the key fields.
@@ -475,6 +480,31 @@ pub fn batch_last(file: &[u8], batch: &[u8], store: u64, product: u64) -> Option
     let Some(&[.., offset]) = found else { return refused(19) };
     let message = all.iter().find(|message| message.from as u64 == offset).expect("each row has its message");
     Some(Ok(message.from..message.to))
+}
+
+pub fn batch_compact(file: &[u8], batch: &[u8], out_len: usize) -> Result<Vec<u8>, Refusal> {
+    let table = Table::parse(file)?;
+    let index = index(&table, batch)?;
+    let all = indexed(&table, batch, &index).ok_or(Refusal { no: 18, place: 0 })?;
+    // Rows of one key stand together, and its last message's row is the last of them.
+    let mut kept: Vec<[u64; 3]> = vec![];
+    for (i, row) in index.rows.iter().enumerate() {
+        if index.rows.get(i + 1).is_none_or(|next| next[..2] != row[..2]) {
+            kept.push(*row);
+        }
+    }
+    kept.sort_by_key(|row| row[2]);
+    let (mut messages, mut rows) = (vec![], vec![]);
+    for [store, product, offset] in kept {
+        rows.push([store, product, messages.len() as u64]);
+        let message = all.iter().find(|message| message.from as u64 == offset).expect("each kept row has its message");
+        messages.extend(&batch[message.from..message.to]);
+    }
+    let compacted = with_index(messages, rows, index.fields);
+    if compacted.len() > out_len {
+        return Err(Refusal { no: 12, place: 0 });
+    }
+    Ok(compacted)
 }
 
 /// The shortest varint.

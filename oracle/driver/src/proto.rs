@@ -95,7 +95,7 @@ fn last_text(a: &Option<Result<Range<usize>, Refusal>>) -> String {
     }
 }
 
-/// Answers one request line. With `from_document` the crate-free model answers R, S, W, I, C, N, K and L.
+/// Answers one request line. With `from_document` the crate-free model answers R, S, W, I, C, N, K, L and P.
 pub fn answer(line: &str, from_document: bool) -> Result<String, String> {
     let f: Vec<&str> = line.split_ascii_whitespace().collect();
     match f[..] {
@@ -161,6 +161,10 @@ pub fn answer(line: &str, from_document: bool) -> Result<String, String> {
         ["L", table, batch, store, product] => {
             let last = if from_document { model::batch_last } else { batch::last };
             Ok(last_text(&last(&unhex(table)?, &unhex(batch)?, number(store)?, number(product)?)))
+        }
+        ["P", table, batch, out_len] => {
+            let compact = if from_document { model::batch_compact } else { batch::compact };
+            Ok(write_text(&compact(&unhex(table)?, &unhex(batch)?, number(out_len)? as usize)))
         }
         _ => Err("unknown request".into()),
     }

@@ -1,4 +1,5 @@
-//! T-08's sentences about the night batch, one by one, as the oracle and the model have them.
+//! T-08's sentences about the night batch and T-13's about its compaction, one by one, as the oracle and the model have
+//! them.
 //! Run: cargo test --offline --release -p oracle-driver
 
 use core::ops::Range;
@@ -43,6 +44,13 @@ fn last(table: &Table, bytes: &[u8], store: u64, product: u64) -> Option<Result<
     let both = [batch::last, model::batch_last].map(|last| last(&file, bytes, store, product));
     assert_eq!(both[0], both[1]);
     both[0].clone().map(|answer| answer.map_err(numbered))
+}
+
+fn compacted(table: &Table, bytes: &[u8], out_len: usize) -> Result<Vec<u8>, (u8, usize)> {
+    let file = table.file();
+    let both = [batch::compact, model::batch_compact].map(|compact| compact(&file, bytes, out_len));
+    assert_eq!(both[0], both[1]);
+    both[0].clone().map_err(numbered)
 }
 
 /// Of stores 300, 7, 300 and 300: messages of 4, 3, 4 and 4 bytes.
@@ -216,4 +224,52 @@ fn each_message_is_read_as_with_a_store_of_16384_entries() {
     let mut bad = twice;
     bad[4..8].copy_from_slice(&more);
     assert_eq!(checked(&crowd, &bad), Err((18, 0)));
+}
+
+#[test]
+fn compacted_it_holds_the_last_message_of_each_pair_in_the_old_order_with_rows_made_afresh() {
+    // Of the two messages of (300, 5), which the first and the last are, the first goes.
+    let kept = &MESSAGES[4..];
+    assert_eq!(compacted(&count(), &night(), 71), written(&count(), kept, [0, 1], 71));
+    // The last one in the middle: the order is that of the messages that are kept, not of the keys.
+    let messages = [[7, 5, 0], [9, 5, 1], [7, 5, 2], [8, 5, 3], [9, 5, 4], [1, 1, 5]];
+    let batch = written(&count(), messages.as_flattened(), [0, 1], 200).expect("good messages");
+    let kept = [[7, 5, 2], [8, 5, 3], [9, 5, 4], [1, 1, 5]];
+    assert_eq!(compacted(&count(), &batch, 200), written(&count(), kept.as_flattened(), [0, 1], 200));
+    // Its bytes as they were, padded or not.
+    let padded = written(&count(), &[7, 5, 0, 0x87, 0, 0x85, 0x80, 0, 0x80, 0], [0, 1], 200).expect("good messages");
+    let kept = written(&count(), &[0x87, 0, 0x85, 0x80, 0, 0x80, 0], [0, 1], 200);
+    assert_eq!(compacted(&count(), &padded, 200), kept);
+    let empty = written(&count(), &[], [0, 1], 12).expect("room enough");
+    assert_eq!(compacted(&count(), &empty, 12), Ok(empty));
+}
+
+#[test]
+fn every_question_has_the_same_answer_before_and_after_and_again_changes_nothing() {
+    let before = night();
+    let after = compacted(&count(), &before, 91).expect("a good batch");
+    for (store, product) in [(300, 5), (300, 4), (7, 5), (7, 4), (0, 0), (1 << 32 | 300, 5)] {
+        let [one, other] = [&before, &after].map(|bytes| {
+            let part = last(&count(), bytes, store, product).expect("a good batch");
+            part.map(|part| bytes[part].to_vec())
+        });
+        assert_eq!(one, other);
+    }
+    assert_eq!(compacted(&count(), &after, after.len()), Ok(after));
+}
+
+#[test]
+fn refusals_as_the_check_and_then_the_output() {
+    let (good, bad_table) = (night(), Table { root: 9, ..count() });
+    let mut unfit = good.clone();
+    unfit[87] = 1;
+    let mut swapped = good.clone();
+    swapped[15..47].rotate_left(16);
+    assert_eq!(compacted(&bad_table, &unfit, 0), Err((1, 0)));
+    assert_eq!(compacted(&Table::leaf(32), &unfit, 0), Err((2, 0)));
+    assert_eq!(compacted(&count(), &unfit, 0), Err((17, 0)));
+    assert_eq!(compacted(&count(), &unfit[81..], 0), Err((18, 0)));
+    assert_eq!(compacted(&count(), &swapped, 0), Err((18, 0)));
+    assert_eq!(compacted(&count(), &good, 70), Err((12, 0)));
+    assert_eq!(compacted(&count(), &good, 71).map(|batch| batch.len()), Ok(71));
 }

@@ -74,6 +74,54 @@ pub fn last(table: &[u8], bytes: &[u8], store: u64, product: u64) -> (&'static s
     (kind, outcome)
 }
 
+/// Into an output of so many bytes; and what the request is counted as. What was compacted is good, is the same when
+/// compacted again, and answers some of the batch's keys with the same bytes.
+pub fn compacting(table: &[u8], bytes: &[u8], out_len: usize) -> (&'static str, Result<(), Differs>) {
+    let right = batch::compact(table, bytes, out_len);
+    let kind = match &right {
+        Ok(_) => "batch compacted",
+        Err(Refusal { no: 12, .. }) => "compaction for a short output",
+        Err(_) => "compaction of a batch not good",
+    };
+    let before = lent_bytes(out_len);
+    let mut after = before.clone();
+    if let Ok(batch) = &right {
+        after[..batch.len()].copy_from_slice(batch);
+    }
+    let right = right.map(|batch| batch.len()).map_err(|Refusal { no, place }| (no, place));
+    let in_c = match right {
+        Ok(len) => (0, len as u64),
+        Err((no, place)) => (no.into(), place as u64),
+    };
+    let (mut out, mut out_in_c) = (before.clone(), before);
+    let ours = reystavem::batch_compact(table, bytes, &mut out).map_err(numbered);
+    let outcome = same("answer", ours, right).and_then(|()| same("output", &out, &after)).and_then(|()| {
+        same("number and place in C", compact_in_c(table, bytes, &mut out_in_c), in_c)?;
+        same("output in C", out_in_c, after)?;
+        right.map_or(Ok(()), |len| promised(table, bytes, &out[..len]))
+    });
+    (kind, outcome)
+}
+
+/// What T-13 promises of a batch and what became of it, by the library alone.
+fn promised(table: &[u8], before: &[u8], after: &[u8]) -> Result<(), Differs> {
+    same("the compacted one's check", reystavem::batch_check(table, after), Ok(()))?;
+    let mut again = vec![0; after.len()];
+    same("the length of another compaction", reystavem::batch_compact(table, after, &mut again), Ok(after.len()))?;
+    same("another compaction", &again[..], after)?;
+    let rows =
+        before.len() - 12 - u32::from_le_bytes(before[before.len() - 8..][..4].try_into().expect("four")) as usize;
+    for row in before[rows..before.len() - 12].chunks(16).step_by(7) {
+        let store = u64::from(u32::from_le_bytes(row[..4].try_into().expect("four")));
+        let product = u64::from_le_bytes(row[4..12].try_into().expect("eight"));
+        for product in [product, product.wrapping_add(1)] {
+            let [one, other] = [before, after].map(|batch| reystavem::batch_last(table, batch, store, product));
+            same("a last message afterwards", other, one)?;
+        }
+    }
+    Ok(())
+}
+
 /// The number and the place, as the header has them.
 pub fn write_in_c(table: &[u8], messages: &[u8], fields: [u64; 2], out: &mut [u8]) -> (u64, u64) {
     let mut place = u64::MAX;
@@ -84,6 +132,15 @@ pub fn write_in_c(table: &[u8], messages: &[u8], fields: [u64; 2], out: &mut [u8
     let number = unsafe {
         reystavem_batch_write(table, table_len, messages, messages_len, store, product, out, out_len, &mut place)
     };
+    (number, place)
+}
+
+pub fn compact_in_c(table: &[u8], bytes: &[u8], out: &mut [u8]) -> (u64, u64) {
+    let mut place = u64::MAX;
+    let (table_len, batch_len, out_len) = (table.len(), bytes.len(), out.len());
+    let (table, bytes, out) = (table.as_ptr(), bytes.as_ptr(), out.as_mut_ptr());
+    // SAFETY: each slice is lent with its own length; the number is ours.
+    let number = unsafe { reystavem_batch_compact(table, table_len, bytes, batch_len, out, out_len, &mut place) };
     (number, place)
 }
 
@@ -135,5 +192,14 @@ extern "C" {
         place: *mut u64,
         from: *mut u64,
         len: *mut u64,
+    ) -> u64;
+    fn reystavem_batch_compact(
+        table: *const u8,
+        table_len: usize,
+        batch: *const u8,
+        batch_len: usize,
+        out: *mut u8,
+        out_len: usize,
+        place: *mut u64,
     ) -> u64;
 }

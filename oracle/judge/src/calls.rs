@@ -327,6 +327,7 @@ fn parsed(line: &str, area: &mut Area) -> Result<(&'static str, Result<(), Diffe
         ["L", table, batch, store, product] => {
             batches::last(&unhex(table)?, &unhex(batch)?, number(store)?, number(product)?)
         }
+        ["P", table, batch, out] => batches::compacting(&unhex(table)?, &unhex(batch)?, number(out)? as usize),
         _ => return Err("unknown request".into()),
     })
 }

@@ -1,7 +1,7 @@
 //! Batches at the edges of their 32-bit fields, as document 02 says: an offset, a count and a distance that just fit and
 //! that just don't. The oracle isn't asked. The bytes lent are zero and hardly any of them is looked at, so that they take
 //! addresses and no memory.
-use crate::batches::{check_in_c, last_in_c, write_in_c};
+use crate::batches::{check_in_c, compact_in_c, last_in_c, write_in_c};
 use crate::calls::same;
 use crate::Tally;
 use oracle_driver::batch::{Row, Trailer};
@@ -55,7 +55,10 @@ pub fn run() -> Tally {
         let batch = long(offset, &behind);
         let ours = check_in_c(&wide, &batch);
         tally.note("batch checked", same("number and place", ours, right), || format!("a message at {offset}"));
-        if right.0 == 0 {
+        // Compacting it keeps both messages, for which there is no room.
+        let (ours, right) = (compact_in_c(&wide, &batch, &mut []), if right.0 == 0 { full } else { right });
+        tally.note("batch compacted", same("number and place", ours, right), || format!("a message at {offset}"));
+        if right == full {
             for (store, from, len) in [(0, 0, offset), (1, offset, 3)] {
                 let right = (0, [0, from as u64, len as u64]);
                 let ours = last_in_c(&wide, &batch, store, store);

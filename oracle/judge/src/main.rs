@@ -7,6 +7,7 @@
 //!   gen SEED COUNT find | judge      finds alone
 //!   gen SEED COUNT compare | judge   comparisons alone
 //!   gen SEED COUNT batch | judge     night batches alone
+//!   gen SEED COUNT compact | judge   their compaction alone
 //!   judge short                      every message of up to two bytes, for each leaf kind and small tables
 //!   judge large                      batches at the edges of their 32-bit fields
 //!

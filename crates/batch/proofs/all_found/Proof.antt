@@ -4,7 +4,8 @@ use Prim.Native.Nat.{_-_}
 use native.Mathlib.Omega.{arith}
 use borrow.Author.Needs.{needs}
 use Rattle.batch.specs.Opened.{partsOf}
-use Rattle.batch.proofs.Checking.{Checking, checking-begin, loop-stops, loop-far, loop-fits, loop-missing, loop-next, loop-on, loop-inside, loop-end}
+use Rattle.keeping.proofs.Judging.{Checking, checking-begin}
+use Rattle.batch.proofs.Checking.{loop-stops, loop-far, loop-fits, loop-missing, loop-next, loop-on, loop-inside, loop-end}
 use Rattle.batch.proofs.all_found.Statement.{statement}
 use Rattle.batch.proofs.all_found.Tie as tie
 

@@ -85,6 +85,30 @@ impl Gen {
         Ok(())
     }
 
+    /// A batch and the one that becomes of it, with outputs that are just long enough and others, and broken ones.
+    pub fn compact_round(&mut self) -> Go {
+        let keyed = self.keyed();
+        let file = self.file(&keyed.t);
+        let night = self.night(&keyed);
+        let batch = night.bytes();
+        let again = model::batch_compact(&file, &batch, usize::MAX).expect("a good batch");
+        let just = again.len();
+        for of in [&batch, &again] {
+            self.batch_compact(&file, of, just)?;
+            for _ in 0..3 {
+                let more = just + self.rng.from_to(1, 40);
+                let out_len =
+                    *self.rng.pick(&[0, just / 2, just - 1, just - 1, just - Trailer::LEN, more, batch.len()]);
+                self.batch_compact(&file, of, out_len)?;
+            }
+        }
+        self.batch_checks(&keyed, &file, &night)?;
+        if self.rng.chance(6) {
+            self.crowded_batch(&keyed, &night)?;
+        }
+        Ok(())
+    }
+
     /// A struct with one to three fields of each key's kind, and others whose values aren't large.
     pub fn keyed(&mut self) -> Keyed {
         let mut t = if self.rng.chance(3) { self.table() } else { rooted(vec![leaf(*self.rng.pick(&LEAVES))]) };
@@ -495,6 +519,10 @@ impl Gen {
                 let batch = Night { rows, ..night.clone() }.bytes();
                 self.batch_check(&file, &batch)?;
                 self.batch_last(&file, &batch, 1, 0)?;
+            }
+            let just = model::batch_compact(&file, &night.bytes(), size).expect("a good batch").len();
+            for out_len in [just - 1, just] {
+                self.batch_compact(&file, &night.bytes(), out_len)?;
             }
             for asked in 0..9 {
                 self.batch_last(&file, &night.bytes(), asked / 3, asked % 3)?;

@@ -2,7 +2,7 @@
 //! ones for the same seed: first a fixed part of edge cases, then random rounds.
 //! `gen SEED COUNT strict` prints strict reads alone; more than a third of their answers are 16.
 //! `gen SEED COUNT find` prints finds alone, `gen SEED COUNT compare` comparisons, `gen SEED COUNT batch` the three
-//! questions about night batches.
+//! questions about night batches, `gen SEED COUNT compact` their compaction.
 
 mod batches;
 mod edges;
@@ -28,8 +28,9 @@ fn main() {
         [seed, count, "find"] => (seed, count, Stream::Find),
         [seed, count, "compare"] => (seed, count, Stream::Compare),
         [seed, count, "batch"] => (seed, count, Stream::Batch),
+        [seed, count, "compact"] => (seed, count, Stream::Compact),
         _ => {
-            eprintln!("usage: gen SEED COUNT [strict|find|compare|batch]");
+            eprintln!("usage: gen SEED COUNT [strict|find|compare|batch|compact]");
             std::process::exit(2)
         }
     };
@@ -54,6 +55,8 @@ enum Stream {
     Compare,
     /// Batches written, checked and searched.
     Batch,
+    /// Every batch that is checked is compacted instead, and nothing else is asked.
+    Compact,
 }
 
 struct Gen {
@@ -68,7 +71,13 @@ impl Gen {
         if self.left == 0 {
             return Err(Enough);
         }
-        if self.stream == Stream::Strict && letter != 'S' {
+        let left_out = match self.stream {
+            Stream::Strict => letter != 'S',
+            Stream::Batch => letter == 'P',
+            Stream::Compact => letter != 'P',
+            _ => false,
+        };
+        if left_out {
             return Ok(());
         }
         self.left -= 1;
@@ -119,10 +128,19 @@ impl Gen {
         self.line('N', format_args!("{} {} {store:x} {product:x} {out_len:x}", hex(file), hex(messages)))
     }
     fn batch_check(&mut self, file: &[u8], batch: &[u8]) -> Go {
+        if self.stream == Stream::Compact {
+            // The batch's own length is always enough.
+            let out_len = if self.rng.chance(4) { self.rng.below(batch.len() + 1) } else { batch.len() };
+            return self.batch_compact(file, batch, out_len);
+        }
         self.line('K', format_args!("{} {}", hex(file), hex(batch)))
     }
     fn batch_last(&mut self, file: &[u8], batch: &[u8], store: u64, product: u64) -> Go {
         self.line('L', format_args!("{} {} {store:x} {product:x}", hex(file), hex(batch)))
+    }
+
+    fn batch_compact(&mut self, file: &[u8], batch: &[u8], out_len: usize) -> Go {
+        self.line('P', format_args!("{} {} {out_len:x}", hex(file), hex(batch)))
     }
 
     /// The words of entries that say of their items whatever place.
@@ -148,7 +166,7 @@ impl Gen {
             }
             Stream::Find => self.paths_at_the_edge()?,
             Stream::Compare => self.pairs_at_the_edge()?,
-            Stream::Batch => self.batches_at_the_edge()?,
+            Stream::Batch | Stream::Compact => self.batches_at_the_edge()?,
         }
         self.rng = Rng(seed);
         loop {
@@ -158,6 +176,7 @@ impl Gen {
                 Stream::Find => self.find_round()?,
                 Stream::Compare => self.compare_round()?,
                 Stream::Batch => self.batch_round()?,
+                Stream::Compact => self.compact_round()?,
             }
         }
     }

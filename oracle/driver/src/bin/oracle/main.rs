@@ -57,7 +57,7 @@ fn lines(pairs: bool) -> bool {
     ok
 }
 
-/// F, A and T have no second source, so only R, S, W, I, C, N, K and L can differ.
+/// F, A and T have no second source, so only R, S, W, I, C, N, K, L and P can differ.
 fn check() -> bool {
     let mut out = BufWriter::new(io::stdout().lock());
     let (mut seen, mut differ) = (0u64, 0u64);

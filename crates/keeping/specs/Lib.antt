@@ -1,0 +1,2 @@
+-- What the contracts of a compaction's passes cite.
+pub mod Kept

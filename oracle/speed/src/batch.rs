@@ -148,6 +148,26 @@ fn last(batch: &[u8], key: Key) -> Option<&[u8]> {
     Some(&bytes[..message(bytes)?.1])
 }
 
+/// Of a batch that was checked. A key's last row is kept; kept rows stay in order, and only their offsets change.
+fn compact(batch: &[u8], out: &mut [u8]) -> Option<usize> {
+    check_by_following(batch)?;
+    let (messages, index) = parts(batch)?;
+    let rows: Vec<Row> = index.chunks_exact(ROW).map(Row::of).collect();
+    let goes = |i: usize| rows.get(i + 1).is_some_and(|next| next.key == rows[i].key);
+    let mut kept: Vec<Row> = (0..rows.len()).filter(|&i| !goes(i)).map(|i| rows[i]).collect();
+    let mut order: Vec<(u32, u32)> = kept.iter().zip(0..).map(|(row, i)| (row.offset, i)).collect();
+    order.sort_unstable();
+    let mut at = 0;
+    for (offset, i) in order {
+        let bytes = &messages[offset as usize..];
+        let bytes = &bytes[..message(bytes)?.1];
+        out.get_mut(at..at + bytes.len())?.copy_from_slice(bytes);
+        kept[i as usize].offset = at as u32;
+        at += bytes.len();
+    }
+    (at + ROW * kept.len() + TRAILER <= out.len()).then(|| put_index(out, at, &kept))
+}
+
 /// So many random counts of 340 stores' products.
 fn night(products: usize) -> Vec<u8> {
     let mut rng = Rng(1);
@@ -178,6 +198,24 @@ fn searches(name: &str, batch: &[u8], keys: &[Key]) {
     row(name, keys.len() as f64, times);
 }
 
+/// Of a batch whose products are so few that half of the messages go.
+fn compactions() {
+    let messages = night(1_845);
+    let size = messages.len() + ROW * MESSAGES + TRAILER;
+    let mut batch = vec![0; size];
+    assert_eq!(reystavem::batch_write(TABLE_T, &messages, 0, 1, &mut batch), Ok(size));
+    let (mut out, mut other) = (vec![0; size], vec![0; size]);
+    let len = reystavem::batch_compact(TABLE_T, &batch, &mut out).expect("a good batch");
+    assert_eq!(compact(&batch, &mut other), Some(len));
+    assert!(out == other, "both keep the same");
+    let kept = u32::from_le_bytes(out[len - TRAILER..][..4].try_into().expect("four bytes"));
+    let times = few([
+        side(|| reystavem::batch_compact(TABLE_T, black_box(&batch), &mut out).is_ok()),
+        side(|| compact(black_box(&batch), &mut other).is_some()),
+    ]);
+    row(&format!("compacted, {kept} stay"), 1e6, times);
+}
+
 pub fn report() {
     let messages = night(5_000);
     let size = messages.len() + ROW * MESSAGES + TRAILER;
@@ -202,6 +240,7 @@ pub fn report() {
     ]);
     row("checked, beside rows sorted anew", 1e6, [ours, sorting]);
     row("checked, beside rows followed to their messages", 1e6, [ours, following]);
+    compactions();
 
     println!("\n| A last message of that batch | ours, ns | plain Rust, ns | ratio |\n|---|---|---|---|");
     let mut rng = Rng(2);

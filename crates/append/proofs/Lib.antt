@@ -1,4 +1,3 @@
 pub mod Lent
-pub mod Bits
 pub mod Matching
 pub mod Promise

@@ -21,9 +21,10 @@ use Rattle.laws.proofs.Areas.{length-zeroed, area-bytes}
 use Rattle.laws.proofs.Children.{shapes-none, shapes-more, matches-nodes, appends-nodes, firsts-counts}
 use Rattle.table.specs.Parts.{Falls}
 use Rattle.table.proofs.Stretches.{falls-next, node-falls}
-use Rattle.append.specs.Area.{marking, pairBit, Sound}
+use Rattle.bits.specs.Marks.{marking}
+use Rattle.bits.proofs.Bits.{marking-only, none-marked}
+use Rattle.append.specs.Area.{pairBit, Sound}
 use Rattle.append.specs.Compare.{suits, alike, Begun, Asked, Told}
-use Rattle.append.proofs.Bits.{marking-only, none-marked}
 
 -- ---- counts of children
 

@@ -1,23 +1,13 @@
 -- The work area: a bit for each pair of an old node and a new one, set once the pair was found to match.
 -- Assumes nothing.
 use mathlib.Core.Path.{_≡_}
-use mathlib.Core.Bool.{Bool, true}
+use mathlib.Core.Bool.{true}
 use mathlib.Core.List.{List}
-use Prim.Native.Nat.{ℕ, _+_, _*_, _/_, _%_, _^_, _<_}
-use lib.Dec.{eqb}
-use lib.ListN.{getD, set}
+use Prim.Native.Nat.{ℕ, _+_, _*_, _<_}
 use Rattle.wire.specs.declared.Layout.{Layout}
-use Rattle.wire.specs.Tests.{pick}
 use Rattle.wire.specs.Append.{matches}
 use Rattle.laws.specs.Tables.{nodeShape}
-
--- bit k of the area is set
-unfoldable pub marked : List ℕ → ℕ → Bool
-marked a k = eqb (getD a (k / 8) 0 / 2 ^ (k % 8) % 2) 1
-
--- the area with bit k set
-unfoldable pub marking : List ℕ → ℕ → List ℕ
-marking a k = pick (marked a k) a (set a (k / 8) (getD a (k / 8) 0 + 2 ^ (k % 8)))
+use Rattle.bits.specs.Marks.{marked}
 
 -- the bit of the old node i and the new node j: as many to an old node as the new table has nodes
 abbrev pub pairBit : Layout → ℕ → ℕ → ℕ

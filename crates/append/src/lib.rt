@@ -5,50 +5,17 @@ use wire::Layout;
 use wire::Side;
 ghost use mathlib.Core.Path.{_≡_};
 ghost use mathlib.Core.Bool.{true};
-ghost use Prim.Native.Nat.{_/_, _<_, _≤_};
-ghost use lib.ListN.{length, replicate};
+ghost use Prim.Native.Nat.{_≤_};
+ghost use lib.ListN.{length};
 ghost use Rattle.wire.specs.Table.{isKind, kindOf, shapeOf, check as checkOf};
 ghost use Rattle.wire.specs.Append.{isOpen, isOpenRoot, matches, appends as appendsOf};
 ghost use Rattle.wire.specs.Answers.{areaBytes, askBy};
 ghost use Rattle.laws.specs.Answered.{Asks};
 ghost use Rattle.laws.specs.Tables.{nodeShape, GoodTable, Limits};
-ghost use Rattle.append.specs.Area.{marked, marking};
 ghost use Rattle.append.specs.Compare.{suits, alike, after, Begun, Asked, Told};
 
 // The work area's bytes: one bit a pair of 4,096 nodes.
 pub const AREA: usize = 2097152;
-
-// ---- the work area
-
-pub fn clear(area: &mut [u8])
-    ensures { λ r. ⌜ now (area .exit) ≡ replicate (length (now (area .entry))) 0 ⌝ }
-{
-    let mut i = 0;
-    while i < area.len() {
-        area[i] = 0;
-        i = i + 1;
-    }
-}
-
-fn is_marked(area: &[u8], pair: usize) -> bool
-    requires { ⌜ pair / 8 < length (now area) ⌝ }
-    ensures { λ r. ⌜ r ≡ marked (now (area .entry)) pair ⌝ }
-{
-    let bit = (pair % 8) as u8;
-    (area[pair / 8] >> bit) % 2 == 1
-}
-
-fn mark(area: &mut [u8], pair: usize)
-    requires { ⌜ pair / 8 < length (now area) ⌝ }
-    ensures { λ r. ⌜ now (area .exit) ≡ marking (now (area .entry)) pair ⌝ }
-{
-    let bit = (pair % 8) as u8;
-    let at = pair / 8;
-    let v = area[at];
-    if (v >> bit) % 2 == 0 {
-        area[at] = v + (1 << bit);
-    }
-}
 
 // ---- two nodes
 
@@ -95,13 +62,13 @@ pub fn nodes_match(
     ensures { λ r. ⌜ Told (now (old .entry)) l (now (new .entry)) m (matches (nodeShape (now (old .entry)) l i) (nodeShape (now (new .entry)) m j)) (now (area .exit)) r ⌝ }
 {
     let pair = i * m.nodes + j;
-    if is_marked(area, pair) {
+    if bits::is_marked(area, pair) {
         return true;
     }
     let number = table::kind_at(old, l, i);
     let free = is_open(number);
     if compare(old, l, i, new, m, j, free, area) {
-        mark(area, pair);
+        bits::mark(area, pair);
         return true;
     }
     false
@@ -156,7 +123,7 @@ pub fn roots_append(old: &[u8], l: Layout, new: &[u8], m: Layout, area: &mut [u8
     let i = l.root;
     let j = m.root;
     let used = (l.nodes * m.nodes + 7) / 8;
-    clear(&mut area[0..used]);
+    bits::clear(&mut area[0..used]);
     let number = table::kind_at(old, l, i);
     let free = is_open_root(number);
     compare(old, l, i, new, m, j, free, area)
@@ -201,7 +168,7 @@ fn ask_and_clear(old: &[u8], new: &[u8], area: &mut [u8], size: usize) -> AskAns
     ensures { λ r. ⌜ Asks (now (old .entry)) (now (new .entry)) (now (area .entry)) r (now (area .exit)) ⌝ }
 {
     let answer = ask(old, new, &mut area[0..size]);
-    clear(&mut area[0..size]);
+    bits::clear(&mut area[0..size]);
     answer
 }
 

@@ -23,7 +23,6 @@ use Rattle.desk.specs.declared.BatchWritten.the-variants.{Done, Refused}
 use Rattle.desk.specs.Messages.{Message, joined, rowsOf}
 use Rattle.desk.specs.Batch.{Or, so, fault, after, shapeBy, tabled, inRoom, batchOf, Parts, opened, messagesOf, writtenAnswer, outWith}
 use Rattle.desk.specs.Compact.{keepLast, compacts}
-use Rattle.batches.specs.Sorted.{isSorted}
 use Rattle.batches.proofs.Bytes.{length-sort, length-rowsOf}
 use Rattle.batches.proofs.Keeping.{keep-fewer}
 use Rattle.batches.proofs.Checks.{messages-pass}
@@ -33,9 +32,8 @@ use Rattle.row.proofs.Bytes.{length-rowsIn}
 use Rattle.messages.specs.declared.Fields.{Fields}
 use Rattle.messages.specs.Fields.{keysOf, KeyedBy}
 use Rattle.keeping.specs.declared.Surveyed.{Surveyed}
-use Rattle.keeping.specs.declared.Surveyed.the-variants.{Good, Bad}
-use Rattle.keeping.specs.Kept.{partsIn, Surveys, good, bad, Keeps, batchKept}
-use Rattle.keeping.proofs.Judging.{not-sorted}
+use Rattle.starts.specs.Window.{partsIn, Judges, good, bad}
+use Rattle.keeping.specs.Kept.{Good, surveyOf, Keeps, batchKept}
 use Rattle.batch.specs.declared.Opened.{Opened}
 use Rattle.batch.specs.declared.Opened.the-variants.{Refused as NotOpened}
 use Rattle.batch.specs.Opened.{rowBytesOf, Parted, Opens, refuses}
@@ -43,6 +41,12 @@ use Rattle.batch.specs.Writing.{Writes}
 use Rattle.batch.specs.Compacting.{compactedBy}
 use Rattle.batch.proofs.Opening.{not-true, not-false}
 use Rattle.batch.proofs.Writing.{unwritten}
+
+pub judged-good : {b : Parts} {t : Bool} → Judges b t → not t ≡ false → Good b
+judged-good {b} j q = go (subst (Judges b) (not-false q) j)
+  where
+    go : Judges b true → Good b
+    go (good {ms} e) = record { them = ms; is = e }
 
 module _ {table : List ℕ} {l : Layout} {f : Fields} (by : KeyedBy table l f) (front rows out : List ℕ) where
   abbrev parts : Parts
@@ -54,39 +58,42 @@ module _ {table : List ℕ} {l : Layout} {f : Fields} (by : KeyedBy table l f) (
   is-bad : messagesOf parts ≡ fault BadBatch → Writes made out (Refused BadBatch) out
   is-bad e = unwritten (unfold compactedBy after in rw e)
 
-  pub compact-unsorted : {t : Bool} → t ≡ isSorted (rowsIn rows) → not t ≡ true → Writes made out (Refused BadBatch) out
-  compact-unsorted e z = is-bad (not-sorted parts (sym e ∙ not-true z))
-
-  pub compact-bad : {r : Surveyed} → Surveys parts r → r ≡ Bad → Writes made out (Refused BadBatch) out
-  compact-bad s q = go (rw q at s)
+  pub compact-bad : {t : Bool} → Judges parts t → not t ≡ true → Writes made out (Refused BadBatch) out
+  compact-bad j q = go (subst (Judges parts) (not-true q) j)
     where
-      go : Surveys parts Bad → Writes made out (Refused BadBatch) out
+      go : Judges parts false → Writes made out (Refused BadBatch) out
       go (bad e) = is-bad e
 
-  record Ready (count len : ℕ) : Type 0 where
-    ms : List Message
-    is : messagesOf parts ≡ so ms
+  module _ (g : Good parts) {r : Surveyed} (s : r ≡ surveyOf (messagesOf parts)) where
+    abbrev ms : List Message
+    ms = g .them
+
+    abbrev count : ℕ
+    count = r .count
+
+    abbrev len : ℕ
+    len = r .len
+
+    told : r ≡ record { count = length (keepLast ms); len = length (joined (keepLast ms)) }
+    told = s ∙ ap surveyOf (g .is) ∙ (unfold surveyOf in refl)
+
     many : length (keepLast ms) ≡ count
-    size : length (joined (keepLast ms)) ≡ len
+    many = sym (ap (λ (r : Surveyed). r .count) told)
 
-  ready : {count len : ℕ} → Surveys parts (Good count len) → Ready count len
-  ready (good {ms} a b c) = record { ms = ms; is = a; many = b; size = c }
-
-  module _ {r : Surveyed} {count len : ℕ} (s : Surveys parts r) (q : r ≡ Good count len) where
-    rd : Ready count len
-    rd = ready (rw q at s)
+    bytes : length (joined (keepLast ms)) ≡ len
+    bytes = sym (ap (λ (r : Surveyed). r .len) told)
 
     pub compact-few : 16 * count ≤ length rows
-    compact-few = messages-pass parts (rd .is) (λ a e. small (ap length e ∙ length-sort (rowsOf 0 (rd .ms)) ∙ length-rowsOf 0 (rd .ms)))
+    compact-few = messages-pass parts (g .is) (λ a e. small (ap length e ∙ length-sort (rowsOf 0 ms) ∙ length-rowsOf 0 ms))
       where
-        small : length (rowsIn rows) ≡ length (rd .ms) → 16 * count ≤ length rows
-        small e = unfold rowCount in omega (arith, keep-fewer (rd .ms), rd .many, length-rowsIn rows)
+        small : length (rowsIn rows) ≡ length ms → 16 * count ≤ length rows
+        small e = unfold rowCount in omega (arith, keep-fewer ms, many, length-rowsIn rows)
 
-    size : length (batchOf (keysOf table l f) (keepLast (rd .ms))) ≡ len + (16 * count + 12)
-    size = length-batch (keysOf table l f) (keepLast (rd .ms)) ∙ rw (rd .size, rd .many)
+    size : length (batchOf (keysOf table l f) (keepLast ms)) ≡ len + (16 * count + 12)
+    size = length-batch (keysOf table l f) (keepLast ms) ∙ rw (bytes, many)
 
-    made-room : made ≡ inRoom (length out) (batchOf (keysOf table l f) (keepLast (rd .ms)))
-    made-room = unfold compactedBy after in rw (rd .is)
+    made-room : made ≡ inRoom (length out) (batchOf (keysOf table l f) (keepLast ms))
+    made-room = unfold compactedBy after in rw (g .is)
 
     pub compact-full : {t : Bool} → t ≡ leb (len + (16 * count + 12)) (length out) → not t ≡ true → Writes made out (Refused (Wire Full 0)) out
     compact-full e z = unwritten (made-room ∙ (unfold inRoom pick in rw (size, sym e ∙ not-true z)))
@@ -102,15 +109,15 @@ module _ {table : List ℕ} {l : Layout} {f : Fields} (by : KeyedBy table l f) (
       compact-sizes = length-take-le (len + 16 * count + 12) out (omega (arith, compact-fits)) ∙ total
 
       pub compact-keeps : Keeps table l f front rows len (take (len + 16 * count + 12) out)
-      compact-keeps = record { them = rd .ms; is = rd .is; size = rd .size; room = compact-sizes ∙ rw (rd .many) }
+      compact-keeps = record { them = ms; is = g .is; size = bytes; room = compact-sizes ∙ rw (many) }
 
       pub compact-done : {a : List ℕ} → a ≡ batchKept (keysOf table l f) (messagesOf parts) → Writes made out (Done (len + 16 * count + 12)) (a ++ drop (len + 16 * count + 12) out)
       compact-done {a} q = stored (made-room ∙ (unfold inRoom pick in rw (size, sym e ∙ not-false z)))
         where
-          same : a ≡ batchOf (keysOf table l f) (keepLast (rd .ms))
-          same = q ∙ ap (batchKept (keysOf table l f)) (rd .is) ∙ (unfold batchKept in refl)
+          same : a ≡ batchOf (keysOf table l f) (keepLast ms)
+          same = q ∙ ap (batchKept (keysOf table l f)) (g .is) ∙ (unfold batchKept in refl)
 
-          stored : made ≡ so (batchOf (keysOf table l f) (keepLast (rd .ms))) → Writes made out (Done (len + 16 * count + 12)) (a ++ drop (len + 16 * count + 12) out)
+          stored : made ≡ so (batchOf (keysOf table l f) (keepLast ms)) → Writes made out (Done (len + 16 * count + 12)) (a ++ drop (len + 16 * count + 12) out)
           stored done = record { answered = unfold writtenAnswer in rw (done, size, total); stored = unfold outWith in rw (done, size, same, total) }
 
 -- ---- the call

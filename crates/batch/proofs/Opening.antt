@@ -8,7 +8,6 @@ use native.Mathlib.Nat.{sub-zero}
 use native.Mathlib.Omega.{arith}
 use lib.ListN.{length, take, drop, length-drop}
 use lib.Seq.{drop-cons, take-nil, take-take, length-take-le}
-use lib.Dec.{eqb}
 use borrow.Author.Tests.{lt-leb, le-leb, lt-ltb, le-ltb, eq-eqb, ne-eqb}
 use Rattle.wire.specs.declared.Refusal.{Refusal}
 use Rattle.wire.specs.declared.Layout.{Layout}
@@ -260,13 +259,3 @@ parted-of {table} {l} {batch} {f} {start} {end} o a = go (rw a at o)
   where
     go : Opens table l batch (Apart f start end) → Parted table l batch f start end
     go (parts p) = p
-
--- ---- the same key
-
-pub key-same : (a b : Key) → a .store ≡ b .store → eqb (a .product) (b .product) ≡ sameKey a b
-unfolding sameKey both
-key-same a b e = rw (eq-eqb (a .store) (b .store) e)
-
-pub key-other : (a b : Key) → (a .store ≡ b .store → ⊥) → false ≡ sameKey a b
-unfolding sameKey both
-key-other a b ne = rw (ne-eqb (a .store) (b .store) ne)

@@ -1,18 +1,15 @@
 -- A batch as code takes it apart, and what the rows in front of a turn lead to.
 -- Assumes nothing.
 use mathlib.Core.Path.{_≡_}
-use mathlib.Core.Bool.{Bool, true, false}
 use mathlib.Core.List.{List}
 use Prim.Native.Nat.{ℕ, _+_, _-_, _≤_}
 use lib.ListN.{length, take, drop}
 use Rattle.wire.specs.declared.Layout.{Layout}
 use Rattle.wire.specs.Table.{shapeOf}
 use Rattle.desk.specs.declared.Fault.{Fault}
-use Rattle.desk.specs.declared.Fault.the-variants.{Batch as BadBatch}
 use Rattle.desk.specs.declared.Key.{Key}
 use Rattle.desk.specs.declared.BatchFound.{BatchFound}
-use Rattle.desk.specs.Messages.{Message}
-use Rattle.desk.specs.Batch.{so, fault, Parts, opened, messagesOf, foundIn, foundAnswer}
+use Rattle.desk.specs.Batch.{so, fault, Parts, opened, foundIn, foundAnswer}
 use Rattle.batches.specs.Search.{Turns, rowBefore}
 use Rattle.row.specs.Ranks.{rowsIn}
 use Rattle.messages.specs.declared.Fields.{Fields}
@@ -43,8 +40,3 @@ pub record Finds (table : List ℕ) (l : Layout) (batch : List ℕ) (f : Fields)
   pub turn : ℕ
   pub turns : Turns k (rowsIn (rowBytesOf batch start end)) turn
   pub said : answer ≡ foundAnswer (foundIn (partsOf table l batch f start end) (rowBefore k (rowsIn (rowBytesOf batch start end)) turn))
-
--- the messages that a batch is, or it is bad
-pub data Judges (table : List ℕ) (l : Layout) (batch : List ℕ) (f : Fields) (start end : ℕ) : Bool → Type 0 where
-  good : {ms : List Message} → messagesOf (partsOf table l batch f start end) ≡ so ms → Judges table l batch f start end true
-  bad : messagesOf (partsOf table l batch f start end) ≡ fault BadBatch → Judges table l batch f start end false

@@ -4,8 +4,6 @@ use desk::BatchFound;
 use desk::BatchWritten;
 use desk::Fault;
 use desk::Key;
-use desk::Row;
-use keeping::Surveyed;
 use laying::Counted;
 use messages::Fields;
 use messages::Found;
@@ -14,28 +12,22 @@ use wire::Checked;
 use wire::Layout;
 use wire::Refusal;
 ghost use mathlib.Core.Path.{_≡_};
-ghost use mathlib.Core.Bool.{true};
+ghost use Prim.Native.Nat.{_<_};
 ghost use lib.ListN.{length};
 ghost use Rattle.wire.specs.declared.Checked.the-variants.{Good as GoodTable};
 ghost use Rattle.wire.specs.Table.{check as checkOf};
-ghost use Rattle.desk.specs.Rows.{sameKey as sameKeyOf};
 ghost use Rattle.desk.specs.declared.BatchFound.the-variants.{Part};
 ghost use Rattle.desk.specs.Batch.{batchCheck, partOf, writes};
 ghost use Rattle.desk.specs.Compact.{compacts};
-ghost use Rattle.batches.specs.Sorted.{isSorted};
 ghost use Rattle.batches.specs.Search.{Searched};
-ghost use Rattle.row.specs.Ranks.{rowsIn};
 ghost use Rattle.messages.specs.Fields.{KeyedBy};
-ghost use Rattle.keeping.specs.Kept.{partsIn};
+ghost use Rattle.starts.specs.Window.{partsIn, Judges};
 ghost use Rattle.batch.specs.Compacting.{compactedBy};
 ghost use Rattle.batch.specs.Writing.{Fitting, madeBy, Writes};
-ghost use Rattle.batch.specs.Opened.{rowBytesOf, Opens, Parted, Finds, Judges};
+ghost use Rattle.batch.specs.Opened.{Opens, Parted, Finds};
 
 // A trailer's bytes.
 const TRAILER: usize = 12;
-
-// The largest offset that a row has bytes for.
-const FARTHEST: usize = 4294967295;
 
 // A batch taken apart by its trailer: its key fields, and where its rows start and end; or why it is refused.
 pub enum Opened {
@@ -78,16 +70,6 @@ fn take_apart(table: &[u8], l: Layout, batch: &[u8]) -> Opened
     Opened::Parts { fields, start, end }
 }
 
-// Whether two keys are the same.
-fn same_key(a: Key, b: Key) -> bool
-    ensures { λ r. ⌜ r ≡ sameKeyOf a b ⌝ }
-{
-    if a.store == b.store {
-        return a.product == b.product;
-    }
-    false
-}
-
 // The message of a key that the rows in front of a turn lead to.
 fn find(
     table: &[u8],
@@ -108,7 +90,7 @@ fn find(
         };
     }
     let last = row::load(&batch[start..end], turn - 1);
-    if !same_key(key, last.key) {
+    if !messages::same_key(key, last.key) {
         return BatchFound::Refused {
             why: Fault::Missing,
         };
@@ -172,31 +154,25 @@ pub fn part<'a>(batch: &'a [u8], found: BatchFound) -> &'a [u8]
 
 // ---- the whole check
 
-// Whether the bytes before the rows are messages end to end, as many as there are sorted rows, each with its own row among them.
-fn all_found(table: &[u8], l: Layout, f: Fields, batch: &[u8], start: usize, end: usize) -> bool
-    requires { ⌜ Parted (now table) l (now batch) f start end ⌝ }
-    requires { ⌜ isSorted (rowsIn (rowBytesOf (now batch) start end)) ≡ true ⌝ }
-    ensures { λ r. ⌜ Judges (now (table .entry)) l (now (batch .entry)) f start end r ⌝ }
+// Judges a batch by its parts, with memory for a window of any batch.
+fn judge_large(table: &[u8], l: Layout, f: Fields, front: &[u8], rows: &[u8]) -> bool
+    requires { ⌜ KeyedBy (now table) l f ⌝ }
+    ensures { λ r. ⌜ Judges (partsIn (now (table .entry)) l f (now (front .entry)) (now (rows .entry))) r ⌝ }
 {
-    let mut at = 0;
-    let mut count = 0;
-    while at < start {
-        let next = messages::next(table, l, f, &batch[at..start]);
-        let NextMessage::Message { key, len } = next else {
-            return false;
-        };
-        if FARTHEST < at {
-            return false;
-        }
-        let offset = at as u64;
-        let row = Row { key, offset };
-        if !search::is_among(&batch[start..end], row) {
-            return false;
-        }
-        at = at + len;
-        count = count + 1;
+    let mut area = starts::large();
+    starts::judge(table, l, f, front, rows, &mut area)
+}
+
+// Judges a batch by its parts. A small one takes little memory, since all of it is cleared first.
+fn judge(table: &[u8], l: Layout, f: Fields, front: &[u8], rows: &[u8]) -> bool
+    requires { ⌜ KeyedBy (now table) l f ⌝ }
+    ensures { λ r. ⌜ Judges (partsIn (now (table .entry)) l f (now (front .entry)) (now (rows .entry))) r ⌝ }
+{
+    if starts::is_small(front.len()) {
+        let mut area = starts::small();
+        return starts::judge(table, l, f, front, rows, &mut area);
     }
-    count == (end - start) / 16
+    judge_large(table, l, f, front, rows)
 }
 
 // Whether a batch is good: it reads fully up to its rows, and these are one for each message, sorted, its own key and offset in it.
@@ -213,10 +189,8 @@ pub fn check(table: &[u8], batch: &[u8]) -> BatchChecked
             match opened {
                 Opened::Refused { why } => BatchChecked::Bad { why },
                 Opened::Parts { fields, start, end } => {
-                    if search::is_sorted(&batch[start..end]) {
-                        if all_found(table, layout, fields, batch, start, end) {
-                            return BatchChecked::Good;
-                        }
+                    if judge(table, layout, fields, &batch[..start], &batch[start..end]) {
+                        return BatchChecked::Good;
                     }
                     BatchChecked::Bad { why: Fault::Batch }
                 }
@@ -303,18 +277,19 @@ fn compact_by(
     f: Fields,
     front: &[u8],
     rows: &[u8],
+    area: &mut [u8],
     out: &mut [u8],
 ) -> BatchWritten
     requires { ⌜ KeyedBy (now table) l f ⌝ }
+    requires { ⌜ 0 < length (now area) ⌝ }
     ensures { λ r. ⌜ Writes (compactedBy (partsIn (now (table .entry)) l f (now (front .entry)) (now (rows .entry))) (length (now (out .entry)))) (now (out .entry)) r (now (out .exit)) ⌝ }
 {
-    if !search::is_sorted(rows) {
+    if !starts::judge(table, l, f, front, rows, area) {
         return BatchWritten::Refused { why: Fault::Batch };
     }
-    let surveyed = keeping::survey(table, l, f, front, rows);
-    let Surveyed::Good { count, len } = surveyed else {
-        return BatchWritten::Refused { why: Fault::Batch };
-    };
+    let surveyed = keeping::survey(table, l, f, front, rows, area);
+    let count = surveyed.count;
+    let len = surveyed.len;
     let room = out.len();
     if !keeping::has_room(room, count, len) {
         let full = Fault::Wire {
@@ -324,8 +299,53 @@ fn compact_by(
         return BatchWritten::Refused { why: full };
     }
     let total = len + 16 * count + TRAILER;
-    keeping::lay(table, l, f, front, rows, count, len, &mut out[..total]);
+    keeping::lay(
+        table,
+        l,
+        f,
+        front,
+        rows,
+        area,
+        count,
+        len,
+        &mut out[..total],
+    );
     BatchWritten::Done { place: total }
+}
+
+// Compacts a batch by its parts, with memory for a window of any batch.
+fn compact_large(
+    table: &[u8],
+    l: Layout,
+    f: Fields,
+    front: &[u8],
+    rows: &[u8],
+    out: &mut [u8],
+) -> BatchWritten
+    requires { ⌜ KeyedBy (now table) l f ⌝ }
+    ensures { λ r. ⌜ Writes (compactedBy (partsIn (now (table .entry)) l f (now (front .entry)) (now (rows .entry))) (length (now (out .entry)))) (now (out .entry)) r (now (out .exit)) ⌝ }
+{
+    let mut area = starts::large();
+    compact_by(table, l, f, front, rows, &mut area, out)
+}
+
+// Compacts a batch by its parts, a small one with little memory.
+fn compact_parts(
+    table: &[u8],
+    l: Layout,
+    f: Fields,
+    front: &[u8],
+    rows: &[u8],
+    out: &mut [u8],
+) -> BatchWritten
+    requires { ⌜ KeyedBy (now table) l f ⌝ }
+    ensures { λ r. ⌜ Writes (compactedBy (partsIn (now (table .entry)) l f (now (front .entry)) (now (rows .entry))) (length (now (out .entry)))) (now (out .entry)) r (now (out .exit)) ⌝ }
+{
+    if starts::is_small(front.len()) {
+        let mut area = starts::small();
+        return compact_by(table, l, f, front, rows, &mut area, out);
+    }
+    compact_large(table, l, f, front, rows, out)
 }
 
 // Writes a batch of only the last message of each store and product. Nothing is written unless all of it is.
@@ -341,7 +361,7 @@ pub fn compact(table: &[u8], batch: &[u8], out: &mut [u8]) -> BatchWritten
             let opened = take_apart(table, layout, batch);
             match opened {
                 Opened::Refused { why } => BatchWritten::Refused { why },
-                Opened::Parts { fields, start, end } => compact_by(
+                Opened::Parts { fields, start, end } => compact_parts(
                     table,
                     layout,
                     fields,

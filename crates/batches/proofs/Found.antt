@@ -1,30 +1,29 @@
--- Rows in order, as many as there are messages, among which each message's row is found, are the messages' rows sorted: a check need not sort.
+-- How often a row occurs: of as many rows, each at least as often is each as often; and the rows of messages differ.
 -- Assumes nothing.
-use mathlib.Core.Path.{_≡_, refl, sym, ap, _∙_}
+use mathlib.Core.Path.{_≡_, refl, ap, _∙_}
 use mathlib.Core.Bool.{Bool, true, false}
 use mathlib.Core.List.{List, [], _∷_}
 use Prim.Native.Nat.{ℕ, zero, suc, _+_, _<_, _≤_}
 use native.Mathlib.Omega.{arith}
 use lib.ListN.{length, getD}
 use Rattle.wire.specs.Tests.{pick}
-use Rattle.laws.proofs.Splits.{by-test, by-lt}
+use Rattle.laws.proofs.Splits.{by-test}
 use Rattle.desk.specs.declared.Row.{Row}
-use Rattle.desk.specs.Rows.{sameRow, sort}
-use Rattle.batches.specs.Sorted.{tally, AllIn, none-left, each, SortedIfFound, OccursAt}
+use Rattle.desk.specs.Rows.{sameRow}
+use Rattle.batches.specs.Sorted.{tally, AllIn, none-left, each, OccursAt}
 use Rattle.desk.specs.Messages.{Keyed, Message, rowsOf}
 use Rattle.batches.specs.Reads.{Reads, ended, also}
-use Rattle.batches.proofs.Order.{same-row, some-itself, sorts-once}
-use Rattle.batches.proofs.Bytes.{length-rowsOf}
+use Rattle.batches.proofs.Order.{same-row, some-itself}
 
 -- one row, or not
-unfoldable is : Row → Row → ℕ
+unfoldable pub is : Row → Row → ℕ
 is r x = pick (sameRow r x) 1 0
 
-tally-cons : (r x : Row) (xs : List Row) → tally r (x ∷ xs) ≡ is r x + tally r xs
+pub tally-cons : (r x : Row) (xs : List Row) → tally r (x ∷ xs) ≡ is r x + tally r xs
 unfolding tally is
 tally-cons r x xs = refl
 
-tally-none : (r : Row) → tally r [] ≡ 0
+pub tally-none : (r : Row) → tally r [] ≡ 0
 unfolding tally
 tally-none r = refl
 
@@ -85,7 +84,7 @@ early r at (m ∷ ms) l = tally-cons r _ _ ∙ zeros (early r (at + length (m .b
     zeros : {a b : ℕ} → a ≡ 0 → b ≡ 0 → b + a ≡ 0
     zeros e f = omega arith
 
-once : {k : Keyed} {s : List ℕ} {ms : List Message} (r : Row) (at : ℕ) → Reads k s ms → tally r (rowsOf at ms) ≤ 1
+pub once : {k : Keyed} {s : List ℕ} {ms : List Message} (r : Row) (at : ℕ) → Reads k s ms → tally r (rowsOf at ms) ≤ 1
 unfolding rowsOf
 once r at ended = let e = tally-none r in omega arith
 once r at (also {m} {ms} q h l) =
@@ -106,7 +105,7 @@ once r at (also {m} {ms} q h l) =
         → tally r (rowsOf (at + length (m .bytes)) ms) ≤ 1 → tally r (record { key = m .key; offset = at } ∷ rowsOf (at + length (m .bytes)) ms) ≤ 1
     second t e ih = let i : is r (record { key = m .key; offset = at }) ≡ 0 = unfold is pick in rw t in omega arith
 
-found-some : (r : Row) (rows xs : List Row) → AllIn rows xs → 0 < tally r xs → 0 < tally r rows
+pub found-some : (r : Row) (rows xs : List Row) → AllIn rows xs → 0 < tally r xs → 0 < tally r rows
 found-some r rows [] none-left h = let e = tally-none r in absurd (omega arith)
 found-some r rows (x ∷ xs) (each l f) h =
     by-test (sameRow r x) (λ q. rw (same-row r x q) l)
@@ -114,14 +113,6 @@ found-some r rows (x ∷ xs) (each l f) h =
   where
     later : sameRow r x ≡ false → 0 < tally r xs
     later q = let e = tally-cons r x xs in let z : is r x ≡ 0 = unfold is pick in rw q in omega arith
-
-pub sorted-if-found : SortedIfFound
-sorted-if-found k s ms rows r o n f =
-    sorts-once (rowsOf 0 ms) rows (record { ordered = o; same = tallies (rowsOf 0 ms) rows (n ∙ sym (length-rowsOf 0 ms)) (λ q. most q) })
-  where
-    most : (q : Row) → tally q (rowsOf 0 ms) ≤ tally q rows
-    most q =
-        by-lt 0 (tally q (rowsOf 0 ms)) (λ h. let a = once q 0 r in let b = found-some q rows (rowsOf 0 ms) f h in omega arith) (λ h. omega arith)
 
 pub tally-behind : (r x : Row) (xs : List Row) → 0 < tally r xs → 0 < tally r (x ∷ xs)
 tally-behind r x xs h = let e = tally-cons r x xs in omega arith

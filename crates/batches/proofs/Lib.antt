@@ -10,6 +10,9 @@ pub mod Onward
 pub mod Opened
 pub mod Search
 pub mod Found
+pub mod Rising
+pub mod Starting
+pub mod Standing
 pub mod Words
 pub mod Keeping
 pub mod Compacting

@@ -138,7 +138,7 @@ unfolding isSorted
 next-after x y ys e = both-left _ _ e
 
 -- a row that is not the first occurs behind it
-others : (r x : Row) (xs : List Row) → sameRow r x ≡ false → 0 < tally r (x ∷ xs) → 0 < tally r xs
+pub others : (r x : Row) (xs : List Row) → sameRow r x ≡ false → 0 < tally r (x ∷ xs) → 0 < tally r xs
 unfolding tally pick
 others r x xs q h = let z : _≡_ {A = ℕ} (pick (sameRow r x) 1 0) 0 = rw q in omega arith
 

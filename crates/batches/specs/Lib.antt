@@ -3,6 +3,7 @@ pub mod Fit
 pub mod Reads
 pub mod Good
 pub mod Sorted
+pub mod Starts
 pub mod Search
 pub mod Laws
 pub mod Words

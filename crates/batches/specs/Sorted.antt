@@ -1,7 +1,7 @@
 -- What any sorting of rows makes: rows in order, each as often as before.
 -- Assumes nothing.
 use mathlib.Core.Path.{_≡_}
-use mathlib.Core.Bool.{Bool, true}
+use mathlib.Core.Bool.{Bool, true, not}
 use mathlib.Core.List.{List, [], _∷_}
 use Prim.Native.Nat.{ℕ, _+_, _<_}
 use lib.ListN.{length, getD}
@@ -16,6 +16,12 @@ unfoldable pub isSorted : List Row → Bool
 isSorted [] = true
 isSorted (r ∷ []) = true
 isSorted (r ∷ x ∷ xs) = both (notAfter r x) (isSorted (x ∷ xs))
+
+-- each row stands before the next
+unfoldable pub isRising : List Row → Bool
+isRising [] = true
+isRising (r ∷ []) = true
+isRising (r ∷ x ∷ xs) = both (not (notAfter x r)) (isRising (x ∷ xs))
 
 -- how often a row occurs
 unfoldable pub tally : Row → List Row → ℕ
@@ -40,10 +46,13 @@ pub data AllIn (rows : List Row) : List Row → Type 0 where
   none-left : AllIn rows []
   each : {r : Row} {rs : List Row} → 0 < tally r rows → AllIn rows rs → AllIn rows (r ∷ rs)
 
--- as many rows as messages, in order, among which each message's row is found: they are the messages' rows sorted
-abbrev pub SortedIfFound : Type 0
-SortedIfFound = (k : Keyed) (s : List ℕ) (ms : List Message) (rows : List Row) → Reads k s ms → isSorted rows ≡ true → length rows ≡ length ms → AllIn rows (rowsOf 0 ms)
-    → rows ≡ sort (rowsOf 0 ms)
+-- rising rows, as many as messages, each of which is one of the messages' rows, are these sorted
+abbrev pub SortedIfThose : Type 0
+SortedIfThose = (ms : List Message) (rows : List Row) → isRising rows ≡ true → length rows ≡ length ms → AllIn (rowsOf 0 ms) rows → rows ≡ sort (rowsOf 0 ms)
+
+-- and the rows of messages rise once they are sorted
+abbrev pub SortedRises : Type 0
+SortedRises = (k : Keyed) (s : List ℕ) (ms : List Message) → Reads k s ms → isRising (sort (rowsOf 0 ms)) ≡ true
 
 -- a row that stands somewhere occurs
 abbrev pub OccursAt : Type 0

@@ -31,7 +31,8 @@ use Rattle.messages.specs.declared.Fields.{Fields}
 use Rattle.messages.specs.Fields.{firstPlace, secondPlace, keysOf, KeyedBy}
 use Rattle.laying.specs.Counts.{ending}
 use Rattle.laying.proofs.Laying.{sorted-rows, put-behind}
-use Rattle.keeping.specs.Kept.{partsIn, Keeps, keptFor, batchKept}
+use Rattle.starts.specs.Window.{partsIn}
+use Rattle.keeping.specs.Kept.{Keeps, keptFor, batchKept}
 
 -- ---- the key fields' places
 

@@ -1,7 +1,7 @@
 -- The laws that a compaction's passes stand on.
-pub mod Judging
 pub mod Lasting
 pub mod Kept
-pub mod Surveying
+pub mod Passing
 pub mod Keeping
+pub mod Room
 pub mod Laying

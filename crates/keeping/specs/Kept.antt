@@ -1,4 +1,4 @@
--- What a survey of a batch tells, and what its compaction is laid out as.
+-- What a survey of a good batch tells, and what its compaction is laid out as.
 -- Assumes nothing.
 use mathlib.Core.Path.{_≡_}
 use mathlib.Core.List.{List, [], _++_}
@@ -6,25 +6,23 @@ use Prim.Native.Nat.{ℕ, _+_, _*_}
 use lib.ListN.{length}
 use lib.Seq.{sets}
 use Rattle.wire.specs.declared.Layout.{Layout}
-use Rattle.desk.specs.declared.Fault.the-variants.{Batch as BadBatch}
 use Rattle.desk.specs.Rows.{rowsBytes}
 use Rattle.desk.specs.Messages.{Keyed, Message, joined, rowsOf}
 use Rattle.desk.specs.Batch.{Or, so, fault, batchOf, Parts, messagesOf}
 use Rattle.desk.specs.Compact.{keepLast}
-use Rattle.row.specs.Ranks.{rowsIn}
 use Rattle.messages.specs.declared.Fields.{Fields}
-use Rattle.messages.specs.Fields.{keysOf}
+use Rattle.starts.specs.Window.{partsIn}
 use Rattle.keeping.specs.declared.Surveyed.{Surveyed}
-use Rattle.keeping.specs.declared.Surveyed.the-variants.{Good, Bad}
 
--- a batch's parts: the bytes in front of the rows, and the rows' own
-abbrev pub partsIn : (table : List ℕ) → Layout → Fields → (front rows : List ℕ) → Parts
-partsIn table l f front rows = record { keys = keysOf table l f; front = front; rows = rowsIn rows }
+-- a good batch
+pub record Good (b : Parts) : Type 0 where
+  pub them : List Message
+  pub is : messagesOf b ≡ so them
 
--- a good batch, of whose messages so many are kept, with so many bytes; or a bad one
-pub data Surveys (b : Parts) : Surveyed → Type 0 where
-  good : {ms : List Message} {count len : ℕ} → messagesOf b ≡ so ms → length (keepLast ms) ≡ count → length (joined (keepLast ms)) ≡ len → Surveys b (Good count len)
-  bad : messagesOf b ≡ fault BadBatch → Surveys b Bad
+-- how many of its messages are kept, and of how many bytes
+unfoldable pub surveyOf : Or (List Message) → Surveyed
+surveyOf (so ms) = record { count = length (keepLast ms); len = length (joined (keepLast ms)) }
+surveyOf (fault why) = record { count = 0; len = 0 }
 
 -- a good batch, and memory for the batch of what is kept, whose rows start at `len`
 pub record Keeps (table : List ℕ) (l : Layout) (f : Fields) (front rows : List ℕ) (len : ℕ) (out : List ℕ) : Type 0 where

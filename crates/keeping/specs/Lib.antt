@@ -1,2 +1,3 @@
 -- What the contracts of a compaction's passes cite.
 pub mod Kept
+pub mod Lasts

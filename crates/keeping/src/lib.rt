@@ -1,6 +1,5 @@
-// What a compaction keeps of a batch: counted while the batch is judged, and then laid out. What is kept stands in desk's
-// specs/Compact.antt.
-use desk::Key;
+// What a compaction keeps of a good batch, counted and then laid out. A message is kept where the last row of its key leads; these
+// places are marked, a window of them at a time. What is kept stands in desk's specs/Compact.antt.
 use desk::Row;
 use messages::Fields;
 use messages::NextMessage;
@@ -9,98 +8,115 @@ ghost use mathlib.Core.Path.{_≡_};
 ghost use mathlib.Core.Bool.{true};
 ghost use Prim.Native.Nat.{_+_, _*_, _^_, _≤_, _<_};
 ghost use lib.ListN.{length};
-ghost use lib.Dec.{ltb, leb};
+ghost use lib.Dec.{leb};
 ghost use lib.Seq.{sets};
 ghost use Rattle.wire.specs.Tests.{pick};
-ghost use Rattle.desk.specs.Rows.{lastRow, rowBytes};
+ghost use Rattle.desk.specs.Rows.{rowBytes};
 ghost use Rattle.desk.specs.Batch.{messagesOf};
-ghost use Rattle.desk.specs.Compact.{isLast};
-ghost use Rattle.batches.specs.Fit.{RowFits};
-ghost use Rattle.batches.specs.Sorted.{isSorted, tally};
+ghost use Rattle.batches.specs.Sorted.{isSorted};
 ghost use Rattle.row.specs.Ranks.{rowsIn};
 ghost use Rattle.messages.specs.Fields.{keysOf, KeyedBy, firstPlace, secondPlace};
-ghost use Rattle.keeping.specs.Kept.{partsIn, Surveys, Keeps, keptFor, batchKept};
-
-// The largest offset that a row has bytes for.
-const FARTHEST: usize = 4294967295;
+ghost use Rattle.starts.specs.Window.{partsIn};
+ghost use Rattle.keeping.specs.Kept.{Good, surveyOf, Keeps, keptFor, batchKept};
+ghost use Rattle.keeping.specs.Lasts.{MarksIf, Lasts, InWindow};
 
 // A trailer's bytes.
 const TRAILER: usize = 12;
 
-// How many messages of a good batch are kept, and of how many bytes; or that it is bad.
-pub enum Surveyed {
-    Good { count: usize, len: usize },
-    Bad,
+// How many messages of a batch are kept, and of how many bytes.
+pub struct Surveyed {
+    pub count: usize,
+    pub len: usize,
 }
 
-// Whether the last row of a key has an offset.
-fn is_last(rows: &[u8], key: Key, offset: u64) -> bool
-    requires { ⌜ isSorted (rowsIn (now rows)) ≡ true ⌝ }
-    ensures { λ r. ⌜ r ≡ isLast (lastRow key (rowsIn (now (rows .entry)))) offset ⌝ }
+// ---- the last messages of their keys
+
+// Marks the place that a row leads to, if the row ends its key and there is a bit for the place.
+fn mark_if(ends: bool, offset: u64, base: usize, area: &mut [u8])
+    ensures { λ _. ⌜ MarksIf ends base offset (now (area .entry)) (now (area .exit)) ⌝ }
 {
-    let turn = search::turn(rows, key);
-    if turn == 0 {
-        return false;
-    }
-    let found = row::load(rows, turn - 1);
-    if found.key.store == key.store {
-        if found.key.product == key.product {
-            return found.offset == offset;
+    if ends {
+        let at = offset as usize;
+        if base <= at {
+            let place = at - base;
+            if place / 8 < area.len() {
+                bits::mark(area, place);
+            }
         }
     }
-    false
 }
 
-// Whether a row is among sorted rows, once it is known whether it is the last of its key.
-fn is_there(rows: &[u8], row: Row, last: bool) -> bool
+// Marks the places of a window that keys' last rows lead to: the row behind such a row has another key, or there is none.
+fn mark_last(rows: &[u8], base: usize, area: &mut [u8])
     requires { ⌜ isSorted (rowsIn (now rows)) ≡ true ⌝ }
-    requires { ⌜ RowFits row ⌝ }
-    requires { ⌜ last ≡ isLast (lastRow (row .key) (rowsIn (now rows))) (row .offset) ⌝ }
-    ensures { λ r. ⌜ r ≡ ltb 0 (tally row (rowsIn (now (rows .entry)))) ⌝ }
+    ensures { λ _. ⌜ Lasts (rowsIn (now (rows .entry))) base (now (area .exit)) ⌝ }
 {
-    if last {
-        return true;
+    bits::clear(area);
+    let count = rows.len() / 16;
+    if count == 0 {
+        return;
     }
-    search::is_among(rows, row)
+    let mut last = row::load(rows, 0);
+    let mut i = 1;
+    while i < count {
+        let next = row::load(rows, i);
+        let goes_on = messages::same_key(last.key, next.key);
+        mark_if(!goes_on, last.offset, base, area);
+        last = next;
+        i = i + 1;
+    }
+    mark_if(true, last.offset, base, area);
 }
 
-// Judges the messages in front of a batch's rows, which are sorted, and counts those that are kept.
-pub fn survey(table: &[u8], l: Layout, f: Fields, front: &[u8], rows: &[u8]) -> Surveyed
-    requires { ⌜ KeyedBy (now table) l f ⌝ }
+// Where the window begins that a place is in: the one at hand, or one that begins there, which is marked then.
+fn window_at(rows: &[u8], base: usize, at: usize, area: &mut [u8]) -> usize
     requires { ⌜ isSorted (rowsIn (now rows)) ≡ true ⌝ }
-    ensures { λ r. ⌜ Surveys (partsIn (now (table .entry)) l f (now (front .entry)) (now (rows .entry))) r ⌝ }
+    requires { ⌜ Lasts (rowsIn (now rows)) base (now area) ⌝ }
+    requires { ⌜ (base ≤ at) × (0 < length (now area)) ⌝ }
+    ensures { λ r. ⌜ InWindow (rowsIn (now (rows .entry))) at (now (area .exit)) r ⌝ }
 {
+    if (at - base) / 8 < area.len() {
+        return base;
+    }
+    mark_last(rows, at, area);
+    at
+}
+
+// ---- counted
+
+// Counts what is kept of a good batch.
+pub fn survey(
+    table: &[u8],
+    l: Layout,
+    f: Fields,
+    front: &[u8],
+    rows: &[u8],
+    area: &mut [u8],
+) -> Surveyed
+    requires { ⌜ KeyedBy (now table) l f ⌝ }
+    requires { ⌜ Good (partsIn (now table) l f (now front) (now rows)) ⌝ }
+    requires { ⌜ 0 < length (now area) ⌝ }
+    ensures { λ r. ⌜ r ≡ surveyOf (messagesOf (partsIn (now (table .entry)) l f (now (front .entry)) (now (rows .entry)))) ⌝ }
+{
+    mark_last(rows, 0, area);
     let mut at = 0;
-    let mut many = 0;
+    let mut base = 0;
     let mut count = 0;
     let mut len = 0;
     while at < front.len() {
         let next = messages::next(table, l, f, &front[at..]);
-        let NextMessage::Message { key, len: size } = next else {
-            return Surveyed::Bad;
+        let NextMessage::Message { key: _, len: size } = next else {
+            return Surveyed { count, len };
         };
-        if FARTHEST < at {
-            return Surveyed::Bad;
-        }
-        let offset = at as u64;
-        let row = Row { key, offset };
-        let last = is_last(rows, key, offset);
-        if !is_there(rows, row, last) {
-            return Surveyed::Bad;
-        }
         let behind = at + size;
-        let seen = many + 1;
-        if last {
+        base = window_at(rows, base, at, area);
+        if bits::is_marked(area, at - base) {
             count = count + 1;
             len = len + size;
         }
         at = behind;
-        many = seen;
     }
-    if many == rows.len() / 16 {
-        return Surveyed::Good { count, len };
-    }
-    Surveyed::Bad
+    Surveyed { count, len }
 }
 
 // Whether an output has room for so many messages of so many bytes, their rows and the trailer.
@@ -129,12 +145,24 @@ fn put_kept(bytes: &[u8], row: Row, out: &mut [u8], len: usize, to: usize, many:
 }
 
 // Puts the messages that are kept, and a row for each behind them, in the messages' order.
-fn keep(table: &[u8], l: Layout, f: Fields, front: &[u8], rows: &[u8], len: usize, out: &mut [u8])
+fn keep(
+    table: &[u8],
+    l: Layout,
+    f: Fields,
+    front: &[u8],
+    rows: &[u8],
+    area: &mut [u8],
+    len: usize,
+    out: &mut [u8],
+)
     requires { ⌜ KeyedBy (now table) l f ⌝ }
     requires { ⌜ Keeps (now table) l f (now front) (now rows) len (now out) ⌝ }
+    requires { ⌜ 0 < length (now area) ⌝ }
     ensures { λ _. ⌜ now (out .exit) ≡ keptFor (messagesOf (partsIn (now (table .entry)) l f (now (front .entry)) (now (rows .entry)))) (now (out .entry)) ⌝ }
 {
+    mark_last(rows, 0, area);
     let mut at = 0;
+    let mut base = 0;
     let mut to = 0;
     let mut many = 0;
     while at < front.len() {
@@ -143,10 +171,10 @@ fn keep(table: &[u8], l: Layout, f: Fields, front: &[u8], rows: &[u8], len: usiz
             return;
         };
         let behind = at + size;
-        let offset = at as u64;
-        if is_last(rows, key, offset) {
-            let place = to as u64;
-            let row = Row { key, offset: place };
+        base = window_at(rows, base, at, area);
+        if bits::is_marked(area, at - base) {
+            let offset = to as u64;
+            let row = Row { key, offset };
             put_kept(&front[at..behind], row, out, len, to, many);
             to = to + size;
             many = many + 1;
@@ -173,6 +201,7 @@ pub fn lay(
     f: Fields,
     front: &[u8],
     rows: &[u8],
+    area: &mut [u8],
     count: usize,
     len: usize,
     out: &mut [u8],
@@ -180,13 +209,14 @@ pub fn lay(
     requires { ⌜ KeyedBy (now table) l f ⌝ }
     requires { ⌜ Keeps (now table) l f (now front) (now rows) len (now out) ⌝ }
     requires { ⌜ length (now out) ≡ len + (16 * count + 12) ⌝ }
+    requires { ⌜ 0 < length (now area) ⌝ }
     ensures { λ _. ⌜ now (out .exit) ≡ batchKept (keysOf (now (table .entry)) l f) (messagesOf (partsIn (now (table .entry)) l f (now (front .entry)) (now (rows .entry)))) ⌝ }
 {
     let end = len + 16 * count;
     let many = count as u64;
     let store = place_of(f.ahead, f);
     let product = place_of(!f.ahead, f);
-    keep(table, l, f, front, rows, len, out);
+    keep(table, l, f, front, rows, area, len, out);
     sorting::sort(&mut out[len..end]);
     laying::put_trailer(&mut out[end..], many, store, product);
 }

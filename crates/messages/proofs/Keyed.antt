@@ -8,10 +8,12 @@ use native.Mathlib.Nat.{zero-add}
 use native.Mathlib.Omega.{arith}
 use lib.ListN.{length, take, drop}
 use lib.Seq.{length-take-le}
+use lib.Dec.{eqb}
+use borrow.Author.Tests.{eq-eqb, ne-eqb}
 use Rattle.wire.specs.declared.Layout.{Layout}
 use Rattle.wire.specs.declared.Refusal.{Refusal}
 use Rattle.wire.specs.declared.ReadAnswer.the-variants.{Done, Refused as NotRead}
-use Rattle.wire.specs.Tests.{pick, decided}
+use Rattle.wire.specs.Tests.{pick, both, decided}
 use Rattle.wire.specs.Shape.{struct, sameKind, node, Shapes, count}
 use Rattle.wire.specs.Walk.{following, times, along, walk, walks}
 use Rattle.wire.specs.Table.{shapesAt, shapeOf}
@@ -25,14 +27,16 @@ use Rattle.read_item.specs.Steps.{spot}
 use Rattle.reader.specs.Steps.{answerBehind}
 use Rattle.desk.specs.declared.Key.{Key}
 use Rattle.desk.specs.Path.{mostEntries}
-use Rattle.desk.specs.Messages.{fieldsOf, wordAt, keyOf, skim, nextBy, nextOf}
+use Rattle.desk.specs.Rows.{sameKey}
+use Rattle.desk.specs.Messages.{Keyed, Message as Sent, fieldsOf, wordAt, keyOf, skim, next, nextBy, nextOf}
+use Rattle.batches.proofs.Keys.{next-key}
 use Rattle.messages.specs.declared.Fields.{Fields}
 use Rattle.messages.specs.declared.Word.{Word}
 use Rattle.messages.specs.declared.Word.the-variants.{Took, Refused}
 use Rattle.messages.specs.declared.NextMessage.the-variants.{Message, Stops}
-use Rattle.messages.specs.Fields.{fieldCount, firstPlace, secondPlace, keysOf, keyBy, KeyedBy}
+use Rattle.messages.specs.Fields.{fieldCount, firstPlace, secondPlace, keysOf, keyBy, HasKey, KeyedBy}
 use Rattle.messages.specs.Steps.{Goes, Words, took, not-taken, nextAnswer}
-use Rattle.messages.proofs.Steps.{goes-then, first-refused, then-refused, goes-read, row-split, skim-goes, skim-refused}
+use Rattle.messages.proofs.Steps.{goes-as, goes-then, first-refused, then-refused, goes-read, row-split, skim-goes, skim-refused}
 use Rattle.messages.proofs.Words.{words-behind}
 
 -- ---- the root
@@ -47,15 +51,6 @@ unfolding skim read walk
 root-skim ts bs =
     ap (λ r. r .ends) (fit-item head struct (count ts) (λ a. along (reading head) (following struct a) (walks (reading head) ts)) (front bs) (mostEntries - 1))
     ∙ (unfold readItem head enter runAfter following along times past in ap (λ r. fit (mostEntries - 1) r .ends) (then-nothing (row (reading head) ts) (front bs)))
-
-goes-as : {f g : Spot → Run} {m : ℕ} {x : Spot} {n k c : ℕ} → g x ≡ f x → n ≡ k → Goes f m x n c → Goes g m x k c
-goes-as {f} {g} {m} {x} e q a =
-    record {
-      made = a .made;
-      ran = ap (fit (mostEntries - m)) e ∙ a .ran ∙ ap (λ n. record { made = a .made; ends = reached (past n x) }) q;
-      many = a .many;
-      inside = rw (← q) (a .inside);
-    }
 
 module _ (s : List ℕ) (l : Layout) (f : Fields) (bs : List ℕ) (kb : KeyedBy s l f) where
   abbrev rowOf : ℕ → ℕ → Spot → Run
@@ -191,6 +186,9 @@ module _ (s : List ℕ) (l : Layout) (f : Fields) (bs : List ℕ) (kb : KeyedBy 
           go true = unfold pick keyBy in rw (first-word, second-word)
           go false = unfold pick keyBy in rw (first-word, second-word)
 
+      pub key-is : {own key : Key} {t : Bool} → own ≡ keyBy (f .ahead) word word₂ → t ≡ sameKey own key → HasKey (keysOf s l f) bs key t
+      key-is {own} {key} e h = record { is = λ q. h ∙ ap (λ x. sameKey x key) (e ∙ sym its-key ∙ next-key (keysOf s l f) bs q) }
+
       pub message-is : {len k : ℕ} {key : Key} → Done len k ≡ answerBehind d (fit (mostEntries - d) (rowOf from₃ (f .behind) (spot rest₂ q))) → key ≡ keyBy (f .ahead) word word₂
           → Message key len ≡ nextAnswer (nextOf (keysOf s l f) bs)
       message-is {len} {k} {key} a e =
@@ -202,6 +200,23 @@ module _ (s : List ℕ) (l : Layout) (f : Fields) (bs : List ℕ) (kb : KeyedBy 
         where
           ended : fit (mostEntries - 1) (rowOf (f .from) (fieldCount f) (front bs)) .ends ≡ reached (past len (front bs)) → len ≤ length bs → Message key len ≡ nextAnswer (nextOf (keysOf s l f) bs)
           ended h few = unfold nextOf nextBy nextAnswer past in rw (all-skim ∙ h, its-key, e, zero-add len, length-take-le len bs few)
+
+-- ---- the same key
+
+pub key-same : (a b : Key) → a .store ≡ b .store → eqb (a .product) (b .product) ≡ sameKey a b
+unfolding sameKey both
+key-same a b e = rw (eq-eqb (a .store) (b .store) e)
+
+pub key-other : (a b : Key) → (a .store ≡ b .store → ⊥) → false ≡ sameKey a b
+unfolding sameKey both
+key-other a b ne = rw (ne-eqb (a .store) (b .store) ne)
+
+-- nothing is said where no message is read
+pub unread : (k : Keyed) (s : List ℕ) {key : Key} {t : Bool} {why : Refusal} {p : ℕ} → Stops why p ≡ nextAnswer (nextOf k s) → HasKey k s key t
+unread k s {why} {p} a = record { is = λ {m} {rest} e. absurd (clash m rest e) }
+  where
+    clash : (m : Sent) (rest : List ℕ) → nextOf k s ≡ next m rest → ⊥
+    clash m rest e = unfold nextAnswer in (let z : Stops why p ≡ Message (m .key) (length (m .bytes)) = a ∙ ap nextAnswer e in let y : _≡_ {A = ℕ} 0 1 = cc in omega arith)
 
 -- ---- what the code requires
 

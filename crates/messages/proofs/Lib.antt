@@ -2,5 +2,6 @@
 pub mod Steps
 pub mod Words
 pub mod Keyed
+pub mod Past
 pub mod Fitting
 pub mod SoFar

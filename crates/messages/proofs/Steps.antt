@@ -37,6 +37,16 @@ past-left : (n : ℕ) (x : Spot) → length (past n x .bytes) ≡ length (x .byt
 unfolding past
 past-left n x = length-drop n (x .bytes)
 
+-- the same step, and as many bytes
+pub goes-as : {f g : Spot → Run} {m : ℕ} {x : Spot} {n k c : ℕ} → g x ≡ f x → n ≡ k → Goes f m x n c → Goes g m x k c
+goes-as {f} {g} {m} {x} e q a =
+    record {
+      made = a .made;
+      ran = ap (fit (mostEntries - m)) e ∙ a .ran ∙ ap (λ n. record { made = a .made; ends = reached (past n x) }) q;
+      many = a .many;
+      inside = rw (← q) (a .inside);
+    }
+
 module _ (f g : Spot → Run) (m : ℕ) (x : Spot) where
   pub goes-then : {n c k d : ℕ} → Goes f m x n c → Goes g c (past n x) k d → Goes (readThen f g) m x (n + k) d
   unfolding readOn runAfter

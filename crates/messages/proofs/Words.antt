@@ -14,13 +14,13 @@ use Rattle.wire.specs.declared.Refusal.the-variants.{Room}
 use Rattle.wire.specs.declared.Item.{Item}
 use Rattle.wire.specs.declared.Item.the-variants.{Took as Taken, Refused as NotTaken}
 use Rattle.wire.specs.declared.ReadAnswer.the-variants.{Done}
-use Rattle.wire.specs.Shape.{Width, unsigned, int, Kind, plain}
+use Rattle.wire.specs.Shape.{unsigned, Plain, int, Kind, plain}
 use Rattle.wire.specs.Walk.{Step, following, all, times, along, walk, walks}
-use Rattle.wire.specs.Table.{u16At, shapesAt}
+use Rattle.wire.specs.Table.{u16At, nodeAt, recordOf, shapesAt}
 use Rattle.wire.specs.Numbers.{varint}
 use Rattle.wire.specs.Values.{Entry}
 use Rattle.wire.specs.Reading.{Spot, reached, refused, Run, head, readPlain, runAfter, readNothing, readThen, past, entryOf, enter, readItem, reading, read, within, fit}
-use Rattle.laws.specs.Tables.{nodeShape, GoodTable}
+use Rattle.laws.specs.Tables.{nodeKind, nodeShape, GoodTable}
 use Rattle.laws.proofs.Items.{on-unsigned}
 use Rattle.laws.proofs.Varints.{took-in}
 use Rattle.laws.proofs.Children.{walk-node, read-none}
@@ -35,6 +35,7 @@ use Rattle.desk.specs.Messages.{firstWord, onward, wordAt}
 use Rattle.messages.specs.declared.Word.the-variants.{Took, Refused}
 use Rattle.messages.specs.Fields.{keyWidth, IsKey}
 use Rattle.messages.specs.Steps.{Goes, Words, took, not-taken}
+use Rattle.messages.specs.Past.{Uses}
 use Rattle.messages.proofs.Steps.{goes-then, first-refused, then-refused, goes-read, row-split, skim-goes}
 
 -- ---- an integer's own item
@@ -43,11 +44,11 @@ unfoldable leafRun : Item → Spot → Run
 leafRun (Taken own) y = record { made = entryOf own y ∷ []; ends = reached (past (own .used) y) }
 leafRun (NotTaken e) y = record { made = []; ends = refused e (y .place) }
 
-leaf-item : (w : Width) (k : Kind) (n : ℕ) (fs : List (Step (reading head))) (y : Spot) → k ≡ plain (int unsigned w)
-    → readItem head k n (λ a. along (reading head) (following k a) fs) y ≡ leafRun (varint w (y .bytes)) y
-leaf-item w k n fs y e = rw e (unfold readItem head readPlain in rw (on-unsigned (varint w (y .bytes))) (go (varint w (y .bytes))))
+leaf-item : (leaf : Plain) (k : Kind) (n : ℕ) (fs : List (Step (reading head))) (y : Spot) → k ≡ plain leaf
+    → readItem head k n (λ a. along (reading head) (following k a) fs) y ≡ leafRun (readPlain leaf (y .bytes)) y
+leaf-item leaf k n fs y e = rw e (unfold readItem head in go (readPlain leaf (y .bytes)))
   where
-    go : (i : Item) → enter i (λ a. along (reading head) (following (plain (int unsigned w)) a) fs) y ≡ leafRun i y
+    go : (i : Item) → enter i (λ a. along (reading head) (following (plain leaf) a) fs) y ≡ leafRun i y
     go (Taken own) = unfold enter following along times readNothing runAfter leafRun in refl
     go (NotTaken e) = unfold enter leafRun in refl
 
@@ -64,17 +65,37 @@ module _ {s : List ℕ} {l : Layout} (g : GoodTable s l) where
   unfolding rowStep shapesAt all walks
   one-node at y = then-nothing (walk (reading head) (nodeShape s l (u16At s at))) y
 
-  module _ (at : ℕ) (narrow : Bool) (f : Falls s at 1 (l .nodes)) (is : IsKey s l at narrow) where
+  module _ (at : ℕ) (f : Falls s at 1 (l .nodes)) {leaf : Plain} (kind : nodeKind (nodeAt s (recordOf l (u16At s at))) ≡ plain leaf) where
     below : u16At s at < l .nodes
     below = rw (add-zero at) at (f .below 0 (omega arith))
 
+    leaf-run : (y : Spot) → walk (reading head) (nodeShape s l (u16At s at)) y ≡ leafRun (readPlain leaf (y .bytes)) y
+    leaf-run y = walk-node (reading head) (g .node-good (u16At s at) below) y ∙ leaf-item leaf _ _ _ y kind
+
+    leaf-fits : (m : ℕ) (y : Spot) → m < mostEntries → fit (mostEntries - m) (rowOf at 1 y) ≡ leafRun (readPlain leaf (y .bytes)) y
+    leaf-fits m y h =
+        let e : mostEntries - m ≡ suc (mostEntries - m - 1) = omega arith in
+        ap (fit (mostEntries - m)) (one-node at y ∙ leaf-run y) ∙ ap (λ r. fit r (leafRun (readPlain leaf (y .bytes)) y)) e ∙ leaf-fit (mostEntries - m - 1) (readPlain leaf (y .bytes)) y
+
+    -- a leaf that takes n bytes, which are there
+    pub leaf-goes : {m n : ℕ} (y : Spot) → m < mostEntries → n ≤ length (y .bytes) → Uses (readPlain leaf (y .bytes)) n → Goes (rowOf at 1) m y n (m + 1)
+    leaf-goes {m} {n} y h k u =
+        record {
+          made = entryOf (u .own) y ∷ [];
+          ran = leaf-fits m y h ∙ (unfold leafRun in rw (u .is, u .used));
+          many = refl;
+          inside = k;
+        }
+
+  module _ (at : ℕ) (narrow : Bool) (f : Falls s at 1 (l .nodes)) (is : IsKey s l at narrow) where
+    as-varint : (y : Spot) → leafRun (readPlain (int unsigned (keyWidth narrow)) (y .bytes)) y ≡ leafRun (varint (keyWidth narrow) (y .bytes)) y
+    as-varint y = ap (λ i. leafRun i y) (unfold readPlain in on-unsigned (varint (keyWidth narrow) (y .bytes)))
+
     key-run : (y : Spot) → walk (reading head) (nodeShape s l (u16At s at)) y ≡ leafRun (varint (keyWidth narrow) (y .bytes)) y
-    key-run y = walk-node (reading head) (g .node-good (u16At s at) below) y ∙ leaf-item (keyWidth narrow) _ _ _ y (is .kind)
+    key-run y = leaf-run at f (is .kind) y ∙ as-varint y
 
     key-fit : (m : ℕ) (y : Spot) → m < mostEntries → fit (mostEntries - m) (rowOf at 1 y) ≡ leafRun (varint (keyWidth narrow) (y .bytes)) y
-    key-fit m y h =
-        let e : mostEntries - m ≡ suc (mostEntries - m - 1) = omega arith in
-        ap (fit (mostEntries - m)) (one-node at y ∙ key-run y) ∙ ap (λ r. fit r (leafRun (varint (keyWidth narrow) (y .bytes)) y)) e ∙ leaf-fit (mostEntries - m - 1) (varint (keyWidth narrow) (y .bytes)) y
+    key-fit m y h = leaf-fits at f (is .kind) m y h ∙ as-varint y
 
     key-goes : {m : ℕ} (y : Spot) {own : Own} → m < mostEntries → varint (keyWidth narrow) (y .bytes) ≡ Taken own → Goes (rowOf at 1) m y (own .used) (m + 1)
     key-goes {m} y {own} h q =

@@ -11,7 +11,8 @@ use Rattle.wire.specs.Table.{u16At, nodeAt, recordOf, shapesAt, shapeOf}
 use Rattle.laws.specs.Tables.{nodeKind, nodeShape, GoodTable}
 use Rattle.table.specs.Parts.{Falls}
 use Rattle.desk.specs.declared.Key.{Key}
-use Rattle.desk.specs.Messages.{Keyed, isKeyed}
+use Rattle.desk.specs.Rows.{sameKey}
+use Rattle.desk.specs.Messages.{Keyed, isKeyed, Message, next, nextOf}
 use Rattle.messages.specs.declared.Fields.{Fields}
 use Rattle.messages.specs.declared.Found.{Found}
 use Rattle.messages.specs.declared.Found.the-variants.{At, Unfit}
@@ -44,6 +45,10 @@ keyWidth false = w64
 unfoldable pub keyBy : (ahead : Bool) (one other : ℕ) → Key
 keyBy true one other = record { store = one; product = other }
 keyBy false one other = record { store = other; product = one }
+
+-- whether the message that some bytes begin with has a key; of bytes that begin with none nothing is said
+pub record HasKey (k : Keyed) (s : List ℕ) (key : Key) (r : Bool) : Type 0 where
+  pub is : {m : Message} {rest : List ℕ} → nextOf k s ≡ next m rest → r ≡ sameKey (m .key) key
 
 -- the field whose number stands at an offset is a key field
 pub record IsKey (s : List ℕ) (l : Layout) (at : ℕ) (narrow : Bool) : Type 0 where

@@ -6,7 +6,7 @@ use wire::Layout;
 use wire::ReadAnswer;
 use wire::Refusal;
 ghost use mathlib.Core.Path.{_≡_};
-ghost use Prim.Native.Nat.{_+_, _-_, _*_, _^_, _<_};
+ghost use Prim.Native.Nat.{_+_, _-_, _*_, _^_, _<_, _≤_};
 ghost use lib.ListN.{length};
 ghost use lib.Dec.{eqb};
 ghost use Rattle.wire.specs.Numbers.{varint};
@@ -17,9 +17,11 @@ ghost use Rattle.table.specs.Parts.{Falls, rowStep};
 ghost use Rattle.read_item.specs.Steps.{spot};
 ghost use Rattle.reader.specs.Steps.{answerBehind};
 ghost use Rattle.desk.specs.Path.{mostEntries};
+ghost use Rattle.desk.specs.Rows.{sameKey as sameKeyOf};
 ghost use Rattle.desk.specs.Messages.{nextOf};
-ghost use Rattle.messages.specs.Fields.{keysOf, keyWidth, IsKey, KeyedBy, Ordered, Finds, keyBy};
+ghost use Rattle.messages.specs.Fields.{keysOf, keyWidth, IsKey, KeyedBy, Ordered, Finds, keyBy, HasKey};
 ghost use Rattle.messages.specs.Steps.{Words, nextAnswer};
+ghost use Rattle.messages.specs.Past.{lastOf, MostOf, PastVarint, PastInts, PastKey, PastKeys};
 
 // Each message is read as with a store of so many entries, of which the root's own is the first.
 const ROOM: usize = 16384;
@@ -51,6 +53,19 @@ pub enum Word {
         why: Refusal,
         place: usize,
     },
+}
+
+// A key field's word and the place behind it, which lies beyond the bytes if none is taken.
+pub struct Taken {
+    pub word: u64,
+    pub behind: usize,
+}
+
+// The words of both key fields in the order in which they stand, and the place behind them, which may lie beyond the bytes.
+pub struct Both {
+    pub one: u64,
+    pub other: u64,
+    pub behind: usize,
 }
 
 // The next message: its key and how many bytes it has, or the reader's own refusal.
@@ -157,8 +172,8 @@ fn key_by(ahead: bool, one: u64, other: u64) -> Key
     }
 }
 
-// The next message of some bytes.
-pub fn next(table: &[u8], l: Layout, f: Fields, part: &[u8]) -> NextMessage
+// The next message of some bytes, whatever its fields are.
+fn next_any(table: &[u8], l: Layout, f: Fields, part: &[u8]) -> NextMessage
     requires { ⌜ KeyedBy (now table) l f ⌝ }
     ensures { λ r. ⌜ r ≡ nextAnswer (nextOf (keysOf (now (table .entry)) l f) (now (part .entry))) ⌝ }
 {
@@ -204,6 +219,297 @@ pub fn next(table: &[u8], l: Layout, f: Fields, part: &[u8]) -> NextMessage
             }
         }
     }
+}
+
+// ---- one message of integers
+
+// The most bytes of an integer of a kind, a byte being a varint of one; or 0 for another kind.
+fn most_of(number: u8) -> usize
+    ensures { λ r. ⌜ MostOf number r ⌝ }
+{
+    match number {
+        1 => 1,
+        2 => varint::U16::MOST,
+        3 => varint::U32::MOST,
+        4 => varint::U64::MOST,
+        5 => 1,
+        6 => varint::U16::MOST,
+        7 => varint::U32::MOST,
+        8 => varint::U64::MOST,
+        _ => 0,
+    }
+}
+
+// The largest byte that may stand last in so many.
+fn last_of(most: usize) -> u8
+    ensures { λ r. ⌜ r ≡ lastOf most ⌝ }
+{
+    match most {
+        1 => 255,
+        3 => 3,
+        5 => 15,
+        _ => 1,
+    }
+}
+
+// The place behind a varint of at most so many bytes, or one beyond the bytes.
+fn past_varint(most: usize, part: &[u8], at: usize) -> usize
+    requires { ⌜ 1 ≤ most ⌝ }
+    ensures { λ r. ⌜ PastVarint most (now (part .entry)) at r ⌝ }
+{
+    let beyond = part.len() + 1;
+    let mut i = at;
+    let mut left = most;
+    while i < part.len() {
+        let b = part[i];
+        let next = i + 1;
+        if left == 1 {
+            if b <= last_of(most) {
+                return next;
+            }
+            return beyond;
+        }
+        if b < 128 {
+            return next;
+        }
+        left = left - 1;
+        i = next;
+    }
+    beyond
+}
+
+// The same of a row of integers: only where each of them ends, not its value.
+fn past_ints(table: &[u8], l: Layout, from: usize, width: usize, part: &[u8], at: usize) -> usize
+    requires { ⌜ GoodTable (now table) l ⌝ }
+    requires { ⌜ Falls (now table) from width (l .nodes) ⌝ }
+    ensures { λ r. ⌜ PastInts (now (table .entry)) l from width (now (part .entry)) at r ⌝ }
+{
+    let beyond = part.len() + 1;
+    let mut child = from;
+    let mut left = width;
+    let mut to = at;
+    while 0 < left {
+        let c = table::u16_at(table, child);
+        let most = most_of(table::kind_at(table, l, c));
+        if most == 0 {
+            return beyond;
+        }
+        to = past_varint(most, part, to);
+        child = child + 2;
+        left = left - 1;
+    }
+    to
+}
+
+// A key field of any size.
+fn past_long_key(narrow: bool, part: &[u8], at: usize) -> Taken
+    requires { ⌜ at ≤ length (now part) ⌝ }
+    ensures { λ r. ⌜ PastKey narrow (now (part .entry)) at r ⌝ }
+{
+    let item = take_word(narrow, &part[at..]);
+    match item {
+        Item::Refused { why: _ } => {
+            let behind = part.len() + 1;
+            Taken { word: 0, behind }
+        }
+        Item::Took { own } => {
+            let behind = at + own.used;
+            Taken {
+                word: own.first,
+                behind,
+            }
+        }
+    }
+}
+
+// A key field. One of at most four bytes is the same for a store and for a product, and most are.
+fn past_key(narrow: bool, part: &[u8], at: usize) -> Taken
+    requires { ⌜ at ≤ length (now part) ⌝ }
+    ensures { λ r. ⌜ PastKey narrow (now (part .entry)) at r ⌝ }
+{
+    if 4 <= part.len() - at {
+        let a = part[at] as u64;
+        if a < 128 {
+            let behind = at + 1;
+            return Taken { word: a, behind };
+        }
+        let b = part[at + 1] as u64;
+        let two = a % 128 + 128 * (b % 128);
+        if b < 128 {
+            let behind = at + 2;
+            return Taken { word: two, behind };
+        }
+        let c = part[at + 2] as u64;
+        let three = two + 16384 * (c % 128);
+        if c < 128 {
+            let behind = at + 3;
+            return Taken {
+                word: three,
+                behind,
+            };
+        }
+        let d = part[at + 3] as u64;
+        let four = three + 2097152 * (d % 128);
+        if d < 128 {
+            let behind = at + 4;
+            return Taken { word: four, behind };
+        }
+    }
+    past_long_key(narrow, part, at)
+}
+
+// Both key fields, where those in front of them are integers.
+fn past_keys(table: &[u8], l: Layout, f: Fields, part: &[u8]) -> Both
+    requires { ⌜ KeyedBy (now table) l f ⌝ }
+    ensures { λ r. ⌜ PastKeys (now (table .entry)) l f (now (part .entry)) r ⌝ }
+{
+    let len = part.len();
+    let beyond = len + 1;
+    let none = Both {
+        one: 0,
+        other: 0,
+        behind: beyond,
+    };
+    let first = past_ints(table, l, f.from, f.before, part, 0);
+    if len < first {
+        return none;
+    }
+    let one = past_key(f.ahead, part, first);
+    if len < one.behind {
+        return none;
+    }
+    let from = f.from + 2 * (f.before + 1);
+    let second = past_ints(table, l, from, f.between, part, one.behind);
+    if len < second {
+        return none;
+    }
+    let other = past_key(!f.ahead, part, second);
+    Both {
+        one: one.word,
+        other: other.word,
+        behind: other.behind,
+    }
+}
+
+// The same answer, made anew, so that it meets the others in registers.
+fn anew(got: NextMessage) -> NextMessage
+    ensures { λ r. ⌜ r ≡ got ⌝ }
+{
+    let NextMessage::Message { key, len } = got else {
+        return got;
+    };
+    NextMessage::Message { key, len }
+}
+
+// The next message of some bytes. Most are integers alone, and are gone through without a call; where another field stands behind
+// the key fields, the rest is skimmed, and where one stands in front of them, all is read anew.
+pub fn next(table: &[u8], l: Layout, f: Fields, part: &[u8]) -> NextMessage
+    requires { ⌜ KeyedBy (now table) l f ⌝ }
+    ensures { λ r. ⌜ r ≡ nextAnswer (nextOf (keysOf (now (table .entry)) l f) (now (part .entry))) ⌝ }
+{
+    let len = part.len();
+    let front = f.before + f.between + 3;
+    let made = front + f.behind;
+    if ROOM < made {
+        return anew(next_any(table, l, f, &part[0..]));
+    }
+    let both = past_keys(table, l, f, part);
+    let at = both.behind;
+    if len < at {
+        return anew(next_any(table, l, f, &part[0..]));
+    }
+    let from = f.from + 2 * (f.before + f.between + 2);
+    let end = past_ints(table, l, from, f.behind, part, at);
+    let key = key_by(f.ahead, both.one, both.other);
+    if end <= len {
+        return NextMessage::Message { key, len: end };
+    }
+    let got = skim(table, l, from, f.behind, &part[at..], at, front);
+    match got {
+        ReadAnswer::Refused {
+            why,
+            place,
+            count: _,
+        } => NextMessage::Stops { why, place },
+        ReadAnswer::Done { place, count: _ } => NextMessage::Message { key, len: place },
+    }
+}
+
+// Whether two keys are the same.
+pub fn same_key(a: Key, b: Key) -> bool
+    ensures { λ r. ⌜ r ≡ sameKeyOf a b ⌝ }
+{
+    if a.store == b.store {
+        return a.product == b.product;
+    }
+    false
+}
+
+// Whether the message that some bytes begin with has a key, whatever its fields are.
+fn has_key_any(table: &[u8], l: Layout, f: Fields, part: &[u8], key: Key) -> bool
+    requires { ⌜ KeyedBy (now table) l f ⌝ }
+    ensures { λ r. ⌜ HasKey (keysOf (now (table .entry)) l f) (now (part .entry)) key r ⌝ }
+{
+    let one = key_word(table, l, f.from, f.before, f.ahead, part, 0, 1);
+    match one {
+        Word::Refused { why: _, place: _ } => false,
+        Word::Took { word, place, count } => {
+            let from = f.from + 2 * (f.before + 1);
+            let other = key_word(
+                table,
+                l,
+                from,
+                f.between,
+                !f.ahead,
+                &part[place..],
+                place,
+                count,
+            );
+            match other {
+                Word::Refused { why: _, place: _ } => false,
+                Word::Took {
+                    word: second,
+                    place: _,
+                    count: _,
+                } => {
+                    let own = key_by(f.ahead, word, second);
+                    same_key(own, key)
+                }
+            }
+        }
+    }
+}
+
+// The same, where the fields up to the second key field are integers without a call. What stands behind is not read. The steps are
+// those of `past_keys`, which with a second caller would be a call in `next`: 214 instructions for a T, and not 180.
+pub fn has_key(table: &[u8], l: Layout, f: Fields, part: &[u8], key: Key) -> bool
+    requires { ⌜ KeyedBy (now table) l f ⌝ }
+    ensures { λ r. ⌜ HasKey (keysOf (now (table .entry)) l f) (now (part .entry)) key r ⌝ }
+{
+    let len = part.len();
+    let front = f.before + f.between + 2;
+    if ROOM <= front {
+        return has_key_any(table, l, f, &part[0..], key);
+    }
+    let first = past_ints(table, l, f.from, f.before, part, 0);
+    if len < first {
+        return has_key_any(table, l, f, &part[0..], key);
+    }
+    let one = past_key(f.ahead, part, first);
+    if len < one.behind {
+        return has_key_any(table, l, f, &part[0..], key);
+    }
+    let from = f.from + 2 * (f.before + 1);
+    let second = past_ints(table, l, from, f.between, part, one.behind);
+    if len < second {
+        return has_key_any(table, l, f, &part[0..], key);
+    }
+    let other = past_key(!f.ahead, part, second);
+    if len < other.behind {
+        return has_key_any(table, l, f, &part[0..], key);
+    }
+    let own = key_by(f.ahead, one.word, other.word);
+    same_key(own, key)
 }
 
 // ---- the key fields

@@ -167,7 +167,7 @@ fn find_and_clear(
     ensures { λ r. ⌜ Finds (now (old .entry)) (now (new .entry)) (now (area .entry)) (now (path .entry)) r (now (area .exit)) (now (path .exit)) ⌝ }
 {
     let answer = find_within(old, new, &mut area[0..size], path);
-    append::clear(&mut area[0..size]);
+    bits::clear(&mut area[0..size]);
     answer
 }
 

@@ -1,3 +1,2 @@
--- The laws that the searches stand on.
+-- The laws that the search stands on.
 pub mod Turning
-pub mod Finding

@@ -1,12 +1,14 @@
-//! Batches at the edges of their 32-bit fields, as document 02 says: an offset, a count and a distance that just fit and
-//! that just don't. The oracle isn't asked. The bytes lent are zero and hardly any of them is looked at, so that they take
-//! addresses and no memory.
+//! Batches that no stream has. At the edges of their 32-bit fields, as document 02 says: an offset, a count and a distance
+//! that just fit and that just don't; the bytes lent are zero and hardly any of them is looked at, so that they take
+//! addresses and no memory. And of many messages, good ones and ones with a row changed. The oracle isn't asked.
 use crate::batches::{check_in_c, compact_in_c, last_in_c, write_in_c};
 use crate::calls::same;
 use crate::Tally;
 use oracle_driver::batch::{Row, Trailer};
 use oracle_driver::model::shortest;
+use oracle_driver::rng::Rng;
 use oracle_driver::table::{Node, Table, BYTES, STRUCT, U32, U64};
+use std::collections::HashMap;
 
 /// A struct of a store, a product and maybe bytes.
 fn table(kinds: &[u8]) -> Vec<u8> {
@@ -32,10 +34,67 @@ fn index(rows: &[Row]) -> Vec<u8> {
     [&rows[..], &trailer.bytes()].concat()
 }
 
+/// Messages of at least so many bytes in all, and their rows as they come.
+fn many(len: usize, rng: &mut Rng) -> (Vec<u8>, Vec<Row>) {
+    let (mut messages, mut rows) = (vec![], vec![]);
+    while messages.len() < len {
+        let key = (rng.below(50) as u32, rng.below(300) as u64);
+        rows.push(Row { key, offset: messages.len() as u32 });
+        messages.extend([shortest(key.0.into()), shortest(key.1)].concat());
+    }
+    (messages, rows)
+}
+
+fn batch_of(messages: &[u8], rows: &[Row]) -> Vec<u8> {
+    let mut sorted = rows.to_vec();
+    sorted.sort_by_key(|row| (row.key, row.offset));
+    [messages, &index(&sorted)].concat()
+}
+
+/// The batch of each key's last message.
+fn kept(messages: &[u8], rows: &[Row]) -> Vec<u8> {
+    let last: HashMap<_, _> = rows.iter().map(|row| (row.key, row.offset)).collect();
+    let ends = rows[1..].iter().map(|row| row.offset as usize).chain([messages.len()]);
+    let (mut stay, mut index) = (vec![], vec![]);
+    for (row, end) in rows.iter().zip(ends).filter(|(row, _)| last[&row.key] == row.offset) {
+        index.push(Row { key: row.key, offset: stay.len() as u32 });
+        stay.extend(&messages[row.offset as usize..end]);
+    }
+    batch_of(&stay, &index)
+}
+
+/// A batch of many messages: written, checked, compacted, and refused once a bit of a row is changed.
+fn night(table: &[u8], len: usize, tally: &mut Tally) {
+    let rng = &mut Rng(len as u64);
+    let (messages, rows) = many(len, rng);
+    let what = || format!("{} bytes of messages", messages.len());
+    let (mut batch, right) = (batch_of(&messages, &rows), kept(&messages, &rows));
+    let mut out = vec![0; batch.len()];
+    let ours = write_in_c(table, &messages, [0, 1], &mut out);
+    tally.note("batch written", same("answer, and whether it wrote right", (ours, out == batch), ((0, batch.len() as u64), true)), what);
+    tally.note("batch checked", same("number and place", check_in_c(table, &batch), (0, 0)), what);
+    let ours = compact_in_c(table, &batch, &mut out);
+    out.truncate(right.len());
+    tally.note("batch compacted", same("answer, and whether it wrote right", (ours, out == right), ((0, right.len() as u64), true)), what);
+    for turn in 0..24 {
+        // The first and the last row, and some in between.
+        let row = [0, rows.len() - 1].get(turn).copied().unwrap_or_else(|| rng.below(rows.len()));
+        let (at, bit) = (messages.len() + 16 * row + rng.below(16), 1 << rng.below(8));
+        batch[at] ^= bit;
+        let ours = (check_in_c(table, &batch), compact_in_c(table, &batch, &mut []));
+        tally.note("batch with a row changed", same("numbers and places", ours, ((18, 0), (18, 0))), what);
+        batch[at] ^= bit;
+    }
+}
+
 pub fn run() -> Tally {
     let mut tally = Tally::default();
     let (short, wide) = (table(&[U32, U64]), table(&[U32, U64, BYTES]));
     let (full, bad) = ((12, 0), (18, 0));
+
+    for len in [32_760, 32_768, 32_776, 70_000, 2_097_140, 2_097_152, 2_097_160, 5_000_000] {
+        night(&short, len, &mut tally);
+    }
 
     // Two bytes a message. The distance is 2^32 with 2^28 of them.
     for (count, right) in [((1 << 28) - 1, full), (1 << 28, bad)] {

@@ -113,16 +113,39 @@ fn read_as<T: DeserializeOwned>(message: &[u8]) {
     black_box(postcard::from_bytes::<T>(message).is_ok());
 }
 
+/// How many bytes the short texts have.
+pub const SHORT: [usize; 5] = [4, 8, 12, 20, 40];
+
+/// A name of so many ASCII bytes.
+pub fn name(len: usize) -> String {
+    (0..len).map(|i| (b'a' + (i % 26) as u8) as char).collect()
+}
+
+/// The texts that are read and written, short ones first.
+fn texts() -> Vec<(String, String)> {
+    let short = SHORT.map(|len| (format!("text, {len} bytes"), name(len)));
+    let long = [
+        ("text, 64 KiB ASCII", name(65536)),
+        ("text, 64 KiB two-byte", "Περίδρομος".repeat(3276)),
+        ("text, 64 KiB three-byte", "在庫計画".repeat(5461)),
+        ("text, 64 KiB mixed", "Milk 3.5% — lait entier, γάλα, 牛乳 🥛; ".repeat(1300)),
+    ];
+    short.into_iter().chain(long.map(|(name, text)| (name.to_string(), text))).collect()
+}
+
 pub fn report() {
     let one = stock(0);
     let (sequence, many) = stocks();
     let (fields, wide) = fields();
-    let ascii: String = (0..65536).map(|i| (b'a' + (i % 26) as u8) as char).collect();
-    let mixed: String = "Milk 3.5% — lait entier, γάλα, 牛乳 🥛; ".repeat(1300);
+    let texts = texts();
+    let writes: Vec<_> = texts
+        .iter()
+        .map(|(_, text)| move |out: &mut [u8]| postcard::to_slice(black_box(&text[..]), out).unwrap().len())
+        .collect();
 
     let table_t = Table::parse(reystavem::samples::TABLE_T).expect("a good table");
 
-    let samples = [
+    let numbers = [
         Sample {
             name: "one T",
             table: table_t,
@@ -144,28 +167,23 @@ pub fn report() {
             typed_read: &read_as::<[[u32; 25]; 8]>,
             typed_write: &|out| postcard::to_slice(black_box(&wide), out).unwrap().len(),
         },
-        Sample {
-            name: "text, 64 KiB ASCII",
-            table: Table::leaf(STR),
-            message: written(&ascii[..]),
-            typed_read: &read_as_text,
-            typed_write: &|out| postcard::to_slice(black_box(&ascii[..]), out).unwrap().len(),
-        },
-        Sample {
-            name: "text, 64 KiB mixed",
-            table: Table::leaf(STR),
-            message: written(&mixed[..]),
-            typed_read: &read_as_text,
-            typed_write: &|out| postcard::to_slice(black_box(&mixed[..]), out).unwrap().len(),
-        },
     ];
+    let texts = texts.iter().zip(&writes).map(|((name, text), write)| Sample {
+        name,
+        table: Table::leaf(STR),
+        message: written(&text[..]),
+        typed_read: &read_as_text,
+        typed_write: write,
+    });
+    let texts: Vec<Sample> = texts.collect();
+    let samples = || numbers.iter().chain(&texts);
     let head =
         "ours, ns | the crate by a table, ns | the crate with types, ns | ours / by a table | ours / with types |";
     println!("| Reading | {head}\n|---|---|---|---|---|---|");
-    samples.iter().for_each(Sample::reading);
-    samples[1].reading_cold();
+    samples().for_each(Sample::reading);
+    numbers[1].reading_cold();
     println!("\n| Writing | {head}\n|---|---|---|---|---|---|");
-    samples.iter().for_each(Sample::writing);
+    samples().for_each(Sample::writing);
 }
 
 fn read_as_text(message: &[u8]) {

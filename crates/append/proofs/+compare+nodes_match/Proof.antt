@@ -17,9 +17,9 @@ use Rattle.append.proofs.nodes_match.Reads as nodes-match
 use Rattle.append.proofs.nodes_match.Kinds as nodes-match-kinds
 use Rattle.append.proofs.+compare+nodes_match.Lts-nodes_match as nodes-match-lts
 use Rattle.append.proofs.fits.Reads as fits-reads
-use Rattle.append.proofs.is_marked.Reads as is-marked-reads
+use Rattle.bits.proofs.is_marked.Reads as is-marked-reads
 use Rattle.append.proofs.is_open.Reads as is-open-reads
-use Rattle.append.proofs.mark.Reads as mark-reads
+use Rattle.bits.proofs.mark.Reads as mark-reads
 use Rattle.table.proofs.child_count.Reads as child-count-reads
 use Rattle.table.proofs.first_child.Reads as first-child-reads
 use Rattle.table.proofs.kind_at.Reads as kind-at-reads
@@ -167,7 +167,7 @@ nodes-match-add-pair : (t : ℕ) → nodes-match-lts.Need-add-pair (nodes-match-
 nodes-match-add-pair t c = record { fits = pair-fits (c .before .before .before .before .pre .1) }
 
 nodes-match-is-marked-requires : (t : ℕ) → nodes-match-lts.Need-is-marked-requires (nodes-match-calls t) (nodes-match-at t) nodes-match.Post
-nodes-match-is-marked-requires t c κs = pair-inside (c .before .before .before .before .before .pre .1)
+nodes-match-is-marked-requires t c κs = search needs
 
 nodes-match-same-length : (t : ℕ) → nodes-match-lts.Need-same-length (nodes-match-calls t) (nodes-match-at t) nodes-match.Post
 nodes-match-same-length t c = search needs

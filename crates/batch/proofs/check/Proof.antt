@@ -1,10 +1,11 @@
 -- `batch::check` meets its contract.
 -- Assumes nothing.
 use mathlib.Core.Path.{sym, _∙_}
+use lib.Seq.{length-take-le}
+use Rattle.batch.proofs.Opening.{parted-of}
+use Rattle.batch.proofs.Checking.{check-table, check-fault, check-good, check-bad}
 use native.Mathlib.Omega.{arith}
 use borrow.Author.Needs.{needs}
-use Rattle.batch.proofs.Opening.{parted-of}
-use Rattle.batch.proofs.Checking.{check-table, check-fault, check-unsorted, check-good, check-bad}
 use Rattle.batch.proofs.check.Statement.{statement}
 use Rattle.batch.proofs.check.Tie as tie
 
@@ -26,23 +27,23 @@ enum-known-opened c = search needs
 enum-known-opened-2 : tie.Need-enum-known-opened-2
 enum-known-opened-2 c = search needs
 
-sub-is-sorted : tie.Need-sub-is-sorted
-sub-is-sorted c = (parted-of (c .before .before .before .take-apart .ensures) (c .before .opened2 .given .1)) .starts
+slice-aggregate-judge : tie.Need-slice-aggregate-judge
+slice-aggregate-judge c = sym (length-take-le _ _ (omega (arith, parted-of (c .before .before .before .before .take-apart .ensures) (c .before .before .opened2 .given .1) .starts, parted-of (c .before .before .before .before .take-apart .ensures) (c .before .before .opened2 .given .1) .ends)))
 
-part-is-sorted-start : tie.Need-part-is-sorted-start
-part-is-sorted-start c = (parted-of (c .before .before .before .take-apart .ensures) (c .before .opened2 .given .1)) .starts
+sub-judge : tie.Need-sub-judge
+sub-judge c = parted-of (c .before .before .before .before .take-apart .ensures) (c .before .before .opened2 .given .1) .starts
 
-part-is-sorted-end : tie.Need-part-is-sorted-end
-part-is-sorted-end c = omega (arith, (parted-of (c .before .before .before .take-apart .ensures) (c .before .opened2 .given .1)) .ends)
+part-judge-start : tie.Need-part-judge-start
+part-judge-start c = parted-of (c .before .before .before .before .take-apart .ensures) (c .before .before .opened2 .given .1) .starts
 
-is-sorted-requires : tie.Need-is-sorted-requires
-is-sorted-requires c κs = search needs
+part-judge-end : tie.Need-part-judge-end
+part-judge-end c = omega (arith, parted-of (c .before .before .before .before .take-apart .ensures) (c .before .before .opened2 .given .1) .ends)
 
-all-found-requires : tie.Need-all-found-requires
-all-found-requires c κs = ((parted-of (c .before .before .before .before .before .before .take-apart .ensures) (c .before .before .before .before .opened2 .given .1)), sym (c .before .is-sorted .ensures) ∙ c .if1 .taken)
+judge-requires : tie.Need-judge-requires
+judge-requires c κs = parted-of (c .before .before .before .before .before .take-apart .ensures) (c .before .before .before .opened2 .given .1) .keyed
 
 returns : tie.Need-returns
-returns c = check-good _ _ (c .before .before .before .before .before .before .before .before .before .before .before .before .check .ensures) (c .before .before .before .before .before .before .before .before .before .before .checked2 .given .1) (parted-of (c .before .before .before .before .before .before .before .before .take-apart .ensures) (c .before .before .before .before .before .before .opened2 .given .1)) (c .before .all-found .ensures) (c .if2 .taken)
+returns c = check-good _ _ (c .before .before .before .before .before .before .before .before .before .before .before .check .ensures) (c .before .before .before .before .before .before .before .before .before .checked2 .given .1) (parted-of (c .before .before .before .before .before .before .before .take-apart .ensures) (c .before .before .before .before .before .opened2 .given .1)) (c .before .judge .ensures) (c .if1 .taken)
 
 returns-2 : tie.Need-returns-2
 returns-2 c = check-table _ _ (c .before .before .before .check .ensures) (c .before .checked .given .1)
@@ -51,10 +52,7 @@ returns-3 : tie.Need-returns-3
 returns-3 c = check-fault _ _ (c .before .before .before .before .before .before .before .check .ensures) (c .before .before .before .before .before .checked2 .given .1) (c .before .before .before .take-apart .ensures) (c .before .opened .given .1)
 
 returns-4 : tie.Need-returns-4
-returns-4 c = check-bad _ _ (c .before .before .before .before .before .before .before .before .before .before .before .before .check .ensures) (c .before .before .before .before .before .before .before .before .before .before .checked2 .given .1) (parted-of (c .before .before .before .before .before .before .before .before .take-apart .ensures) (c .before .before .before .before .before .before .opened2 .given .1)) (c .before .all-found .ensures) (c .if2 .left)
-
-returns-5 : tie.Need-returns-5
-returns-5 c = check-unsorted _ _ (c .before .before .before .before .before .before .before .before .before .before .check .ensures) (c .before .before .before .before .before .before .before .before .checked2 .given .1) (parted-of (c .before .before .before .before .before .before .take-apart .ensures) (c .before .before .before .before .opened2 .given .1)) (c .before .is-sorted .ensures) (c .if1 .left)
+returns-4 c = check-bad _ _ (c .before .before .before .before .before .before .before .before .before .before .before .check .ensures) (c .before .before .before .before .before .before .before .before .before .checked2 .given .1) (parted-of (c .before .before .before .before .before .before .before .take-apart .ensures) (c .before .before .before .before .before .opened2 .given .1)) (c .before .judge .ensures) (c .if1 .left)
 
 pub check-spec : {M : Type 1} → statement M
 check-spec =
@@ -66,13 +64,12 @@ check-spec =
     take-apart-requires
     enum-known-opened
     enum-known-opened-2
-    sub-is-sorted
-    part-is-sorted-start
-    part-is-sorted-end
-    is-sorted-requires
-    all-found-requires
+    slice-aggregate-judge
+    sub-judge
+    part-judge-start
+    part-judge-end
+    judge-requires
     returns
     returns-2
     returns-3
-    returns-4
-    returns-5)
+    returns-4)

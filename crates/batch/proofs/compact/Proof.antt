@@ -2,10 +2,10 @@
 -- Assumes nothing.
 use mathlib.Core.Path.{sym, _∙_}
 use lib.Seq.{length-take-le}
-use native.Mathlib.Omega.{arith}
-use borrow.Author.Needs.{needs}
 use Rattle.batch.proofs.Opening.{parted-of}
 use Rattle.batch.proofs.Compacting.{compact-table, compact-fault, compact-all}
+use native.Mathlib.Omega.{arith}
+use borrow.Author.Needs.{needs}
 use Rattle.batch.proofs.compact.Statement.{statement}
 use Rattle.batch.proofs.compact.Tie as tie
 
@@ -27,20 +27,20 @@ enum-known-opened c = search needs
 enum-known-opened-2 : tie.Need-enum-known-opened-2
 enum-known-opened-2 c = search needs
 
-slice-aggregate-compact-by : tie.Need-slice-aggregate-compact-by
-slice-aggregate-compact-by c = sym (length-take-le _ _ (omega (arith, parted-of (c .before .before .before .before .take-apart .ensures) (c .before .before .opened2 .given .1) .starts, parted-of (c .before .before .before .before .take-apart .ensures) (c .before .before .opened2 .given .1) .ends)))
+slice-aggregate-compact-parts : tie.Need-slice-aggregate-compact-parts
+slice-aggregate-compact-parts c = sym (length-take-le _ _ (omega (arith, parted-of (c .before .before .before .before .take-apart .ensures) (c .before .before .opened2 .given .1) .starts, parted-of (c .before .before .before .before .take-apart .ensures) (c .before .before .opened2 .given .1) .ends)))
 
-sub-compact-by : tie.Need-sub-compact-by
-sub-compact-by c = parted-of (c .before .before .before .before .take-apart .ensures) (c .before .before .opened2 .given .1) .starts
+sub-compact-parts : tie.Need-sub-compact-parts
+sub-compact-parts c = parted-of (c .before .before .before .before .take-apart .ensures) (c .before .before .opened2 .given .1) .starts
 
-part-compact-by-start : tie.Need-part-compact-by-start
-part-compact-by-start c = parted-of (c .before .before .before .before .take-apart .ensures) (c .before .before .opened2 .given .1) .starts
+part-compact-parts-start : tie.Need-part-compact-parts-start
+part-compact-parts-start c = parted-of (c .before .before .before .before .take-apart .ensures) (c .before .before .opened2 .given .1) .starts
 
-part-compact-by-end : tie.Need-part-compact-by-end
-part-compact-by-end c = omega (arith, parted-of (c .before .before .before .before .take-apart .ensures) (c .before .before .opened2 .given .1) .ends)
+part-compact-parts-end : tie.Need-part-compact-parts-end
+part-compact-parts-end c = omega (arith, parted-of (c .before .before .before .before .take-apart .ensures) (c .before .before .opened2 .given .1) .ends)
 
-compact-by-requires : tie.Need-compact-by-requires
-compact-by-requires c κs = parted-of (c .before .before .before .before .before .before .take-apart .ensures) (c .before .before .before .before .opened2 .given .1) .keyed
+compact-parts-requires : tie.Need-compact-parts-requires
+compact-parts-requires c κs = parted-of (c .before .before .before .before .before .before .take-apart .ensures) (c .before .before .before .before .opened2 .given .1) .keyed
 
 returns : tie.Need-returns
 returns c = compact-table _ _ _ (c .before .before .before .check .ensures) (c .before .checked .given .1)
@@ -52,7 +52,7 @@ same-length : tie.Need-same-length
 same-length c = search needs
 
 returns-3 : tie.Need-returns-3
-returns-3 c = compact-all _ _ _ (c .before .before .before .before .before .before .before .before .before .before .before .before .before .check .ensures) (c .before .before .before .before .before .before .before .before .before .before .before .checked2 .given .1) (parted-of (c .before .before .before .before .before .before .before .before .before .take-apart .ensures) (c .before .before .before .before .before .before .before .opened2 .given .1)) (c .before .before .compact-by .ensures)
+returns-3 c = compact-all _ _ _ (c .before .before .before .before .before .before .before .before .before .before .before .before .before .check .ensures) (c .before .before .before .before .before .before .before .before .before .before .before .checked2 .given .1) (parted-of (c .before .before .before .before .before .before .before .before .before .take-apart .ensures) (c .before .before .before .before .before .before .before .opened2 .given .1)) (c .before .before .compact-parts .ensures)
 
 pub compact-spec : {M : Type 1} → statement M
 compact-spec =
@@ -64,11 +64,11 @@ compact-spec =
     take-apart-requires
     enum-known-opened
     enum-known-opened-2
-    slice-aggregate-compact-by
-    sub-compact-by
-    part-compact-by-start
-    part-compact-by-end
-    compact-by-requires
+    slice-aggregate-compact-parts
+    sub-compact-parts
+    part-compact-parts-start
+    part-compact-parts-end
+    compact-parts-requires
     returns
     returns-2
     same-length

@@ -1,7 +1,7 @@
 -- `keeping::has_room` meets its contract.
 -- Assumes nothing.
 use borrow.Author.Needs.{needs}
-use Rattle.keeping.proofs.Surveying.{room-none, room-rows, room-all}
+use Rattle.keeping.proofs.Room.{room-none, room-rows, room-all}
 use Rattle.keeping.proofs.has_room.Statement.{statement}
 use Rattle.keeping.proofs.has_room.Tie as tie
 

@@ -1,22 +1,27 @@
--- `keeping::survey` meets its contract. The loop's invariant: each message so far has its row, and those of them that are kept are counted.
+-- `keeping::survey` meets its contract. The loop's invariant: what is kept of the messages so far is counted, and a window is at hand.
 -- Assumes nothing.
-use mathlib.Core.Path.{sym}
+use mathlib.Core.Path.{_∙_}
 use Prim.Native.Nat.{_-_}
 use lib.ListN.{length}
+use Rattle.row.specs.Ranks.{rowsIn}
+use Rattle.starts.specs.Window.{partsIn}
+use Rattle.keeping.proofs.Passing.{Passing, passing-begin, good-sorted, passing-never, passing-on, passing-inside, mark-tells, passing-keeps, passing-drops, passing-end, count-few, AtHand, at-hand-begin, at-hand-next}
 use native.Mathlib.Omega.{arith}
 use borrow.Author.Needs.{needs}
-use Rattle.keeping.proofs.Surveying.{Surveying, survey-begin, survey-stops, survey-far, survey-fits, survey-missing, survey-on, survey-inside, survey-keeps, survey-drops, survey-good, survey-few}
 use Rattle.keeping.proofs.survey.Statement.{statement}
 use Rattle.keeping.proofs.survey.Tie as tie
 
 abbrev Inv-loop : tie.InvT-loop
-Inv-loop table l f front rows at₀ many₀ count₀ len₀ at many count len = Surveying table l f front rows at many count len
+Inv-loop table l f front rows area₀ at₀ base₀ count₀ len₀ area at base count len = Passing (partsIn table l f front rows) at count len × AtHand (rowsIn rows) base at (length area₀) area
 
 abbrev μ-loop : tie.MeasureT-loop
-μ-loop table l f front rows at₀ many₀ count₀ len₀ at many count len = length front - at
+μ-loop table l f front rows area₀ at₀ base₀ count₀ len₀ area at base count len = length front - at
+
+mark-last-requires : tie.Need-mark-last-requires Inv-loop μ-loop
+mark-last-requires c κs = good-sorted (c .before .before .before .before .before .pre .1 .0)
 
 loop-holds : tie.Need-loop-holds Inv-loop μ-loop
-loop-holds c = survey-begin _ _ _ _ _
+loop-holds c = (passing-begin _, at-hand-begin (c .before .before .mark-last .ensures))
 
 sub-next : tie.Need-sub-next Inv-loop μ-loop
 sub-next c = omega arith
@@ -28,7 +33,7 @@ part-next-end : tie.Need-part-next-end Inv-loop μ-loop
 part-next-end c = search needs
 
 next-requires : tie.Need-next-requires Inv-loop μ-loop
-next-requires c κs = c .before .before .before .before .before .before .pre .0
+next-requires c κs = c .before .before .before .before .before .before .before .before .before .before .before .pre .0
 
 enum-known-next : tie.Need-enum-known-next Inv-loop μ-loop
 enum-known-next c = search needs
@@ -36,50 +41,47 @@ enum-known-next c = search needs
 enum-told : tie.Need-enum-told Inv-loop μ-loop
 enum-told c = search needs
 
+same-length : tie.Need-same-length Inv-loop μ-loop
+same-length c = c .before .before .before .before .before .loop .inv .1 .long ∙ c .before .before .before .before .before .before .before .area .given
+
 returns : tie.Need-returns Inv-loop μ-loop
-returns c = survey-stops (c .before .before .before .before .before .loop .inv) (c .before .before .before .before .before .before .before .before .before .pre .0) (c .before .before .before .before .loop-test .taken) (c .before .before .next .ensures) (c .enum-told .given .1)
-
-returns-2 : tie.Need-returns-2 Inv-loop μ-loop
-returns-2 c = survey-far (c .before .before .before .before .before .before .before .loop .inv) (c .before .before .before .before .before .before .before .before .before .before .before .pre .0) (c .before .before .before .before .before .before .loop-test .taken) (c .before .before .before .before .next .ensures) (c .before .before .next2 .given .1) (λ i. omega (arith, c .before .before .before .before .before .before .before .before .shared-slice-known3 .given i)) (c .if1 .taken)
-
-is-last-requires : tie.Need-is-last-requires Inv-loop μ-loop
-is-last-requires c κs = c .before .before .before .before .before .before .before .before .before .before .before .pre .1
-
-is-there-requires : tie.Need-is-there-requires Inv-loop μ-loop
-is-there-requires c κs = (c .before .before .before .before .before .before .before .before .before .before .before .before .pre .1, (survey-fits (c .before .before .before .before .before .before .before .before .loop .inv) (c .before .before .before .before .before .before .before .before .before .before .before .before .pre .0) (c .before .before .before .before .before .before .before .loop-test .taken) (c .before .before .before .before .before .next .ensures) (c .before .before .before .next2 .given .1) (c .before .if1 .left), c .is-last .ensures))
-
-returns-3 : tie.Need-returns-3 Inv-loop μ-loop
-returns-3 c = survey-missing (c .before .before .before .before .before .before .before .before .before .before .loop .inv) (c .before .before .before .before .before .before .before .before .before .before .before .before .before .before .pre .0) (c .before .before .before .before .before .before .before .before .before .loop-test .taken) (c .before .before .before .before .before .before .before .next .ensures) (c .before .before .before .before .before .next2 .given .1) (c .before .is-there .ensures) (c .if2 .taken)
+returns c = passing-never (c .before .before .before .before .before .before .before .before .before .before .before .before .before .before .pre .1 .0) (c .before .before .before .before .before .before .before .before .before .before .before .before .before .before .pre .0 .fits) (c .before .before .before .before .before .loop .inv .0) (c .before .before .before .before .loop-test .taken) (c .before .before .next .ensures) (c .enum-told .given .1)
 
 add-behind : tie.Need-add-behind Inv-loop μ-loop
-add-behind c = omega (arith, survey-inside (c .before .before .before .before .before .before .before .before .before .before .loop .inv) (c .before .before .before .before .before .before .before .before .before .before .before .before .before .before .pre .0) (c .before .before .before .before .before .before .before .before .before .loop-test .taken) (c .before .before .before .before .before .before .before .next .ensures) (c .before .before .before .before .before .next2 .given .1), c .before .before .before .before .before .before .before .before .before .before .before .before .before .before .good .1 .1 .1 .0 .1)
+add-behind c = omega (arith, passing-inside (c .before .before .before .before .before .before .before .before .before .before .before .before .before .before .before .pre .1 .0) (c .before .before .before .before .before .before .before .before .before .before .before .before .before .before .before .pre .0 .fits) (c .before .before .before .before .before .before .loop .inv .0) (c .before .before .before .before .before .loop-test .taken) (c .before .before .before .next .ensures) (c .before .next2 .given .1), c .before .before .before .before .before .before .before .before .before .before .before .before .before .before .before .good .1 .1 .1 .0 .1)
 
-add-seen : tie.Need-add-seen Inv-loop μ-loop
-add-seen c = omega (arith, c .before .before .before .before .before .before .before .before .before .before .loop .inv .seen .so-far .few, c .before .before .before .before .before .before .before .before .before .loop-test .taken, c .before .before .before .before .before .before .before .before .before .before .before .before .before .before .good .1 .1 .1 .0 .1)
+window-at-requires : tie.Need-window-at-requires Inv-loop μ-loop
+window-at-requires c κs = (good-sorted (c .before .before .before .before .before .before .before .before .before .before .before .before .before .before .before .before .pre .1 .0), (c .before .before .before .before .before .before .before .loop .inv .1 .lasts, (c .before .before .before .before .before .before .before .loop .inv .1 .from, omega (arith, c .before .before .before .before .before .before .before .before .before .before .before .before .before .before .before .before .pre .1 .1, c .before .before .before .before .before .before .before .loop .inv .1 .long, c .before .before .before .before .before .before .before .before .before .area .given))))
+
+sub-is-marked : tie.Need-sub-is-marked Inv-loop μ-loop
+sub-is-marked c = omega (arith, c .before .before .before .window-at .ensures .from)
+
+is-marked-requires : tie.Need-is-marked-requires Inv-loop μ-loop
+is-marked-requires c κs = search needs
 
 add-count : tie.Need-add-count Inv-loop μ-loop
-add-count c = omega (arith, c .before .before .before .before .before .before .before .before .before .before .before .loop .inv .few, c .before .before .before .before .before .before .before .before .before .before .before .loop .inv .seen .so-far .few, c .before .before .before .before .before .before .before .before .before .before .loop-test .taken, c .before .before .before .before .before .before .before .before .before .before .before .before .before .before .before .good .1 .1 .1 .0 .1)
+add-count c = omega (arith, count-few (c .before .before .before .before .before .before .before .before .before .before .before .before .before .before .before .before .before .before .before .before .before .before .pre .1 .0) (c .before .before .before .before .before .before .before .before .before .before .before .before .before .before .before .before .before .before .before .before .before .before .pre .0 .fits) (c .before .before .before .before .before .before .before .before .before .before .before .before .before .loop .inv .0), passing-inside (c .before .before .before .before .before .before .before .before .before .before .before .before .before .before .before .before .before .before .before .before .before .before .pre .1 .0) (c .before .before .before .before .before .before .before .before .before .before .before .before .before .before .before .before .before .before .before .before .before .before .pre .0 .fits) (c .before .before .before .before .before .before .before .before .before .before .before .before .before .loop .inv .0) (c .before .before .before .before .before .before .before .before .before .before .before .before .loop-test .taken) (c .before .before .before .before .before .before .before .before .before .before .next .ensures) (c .before .before .before .before .before .before .before .before .next2 .given .1), c .before .before .before .before .before .before .before .before .before .before .before .before .before .before .before .before .before .before .before .before .before .before .good .1 .1 .1 .0 .1, c .before .before .before .before .before .before .before .before .before .before .before .before .before .loop .inv .0 .few, c .before .before .before .before .before .before .before .before .before .before .before .before .before .loop .inv .0 .so-far .few, c .before .before .before .before .before .before .before .before .before .before .before .before .loop-test .taken)
 
 add-len : tie.Need-add-len Inv-loop μ-loop
-add-len c = omega (arith, c .before .before .before .before .before .before .before .before .before .before .before .loop .inv .short, survey-inside (c .before .before .before .before .before .before .before .before .before .before .before .loop .inv) (c .before .before .before .before .before .before .before .before .before .before .before .before .before .before .before .pre .0) (c .before .before .before .before .before .before .before .before .before .before .loop-test .taken) (c .before .before .before .before .before .before .before .before .next .ensures) (c .before .before .before .before .before .before .next2 .given .1), c .before .before .before .before .before .before .before .before .before .before .before .before .before .before .before .good .1 .1 .1 .0 .1)
+add-len c = omega (arith, c .before .before .before .before .before .before .before .before .before .before .before .before .before .loop .inv .0 .short, passing-inside (c .before .before .before .before .before .before .before .before .before .before .before .before .before .before .before .before .before .before .before .before .before .before .pre .1 .0) (c .before .before .before .before .before .before .before .before .before .before .before .before .before .before .before .before .before .before .before .before .before .before .pre .0 .fits) (c .before .before .before .before .before .before .before .before .before .before .before .before .before .loop .inv .0) (c .before .before .before .before .before .before .before .before .before .before .before .before .loop-test .taken) (c .before .before .before .before .before .before .before .before .before .before .next .ensures) (c .before .before .before .before .before .before .before .before .next2 .given .1), c .before .before .before .before .before .before .before .before .before .before .before .before .before .before .before .before .before .before .before .before .before .before .good .1 .1 .1 .0 .1)
 
 loop-less : tie.Need-loop-less Inv-loop μ-loop
-loop-less c = omega (arith, survey-on (c .before .before .before .before .before .before .before .before .before .before .before .loop .inv) (c .before .before .before .before .before .before .before .before .before .before .before .before .before .before .before .pre .0) (c .before .before .before .before .before .before .before .before .before .before .loop-test .taken) (c .before .before .before .before .before .before .before .before .next .ensures) (c .before .before .before .before .before .before .next2 .given .1), c .before .before .before .before .before .before .before .before .before .before .loop-test .taken)
+loop-less c = omega (arith, passing-on (c .before .before .before .before .before .before .before .before .before .before .before .before .before .before .before .before .before .before .before .before .before .before .pre .1 .0) (c .before .before .before .before .before .before .before .before .before .before .before .before .before .before .before .before .before .before .before .before .before .before .pre .0 .fits) (c .before .before .before .before .before .before .before .before .before .before .before .before .before .loop .inv .0) (c .before .before .before .before .before .before .before .before .before .before .before .before .loop-test .taken) (c .before .before .before .before .before .before .before .before .before .before .next .ensures) (c .before .before .before .before .before .before .before .before .next2 .given .1), c .before .before .before .before .before .before .before .before .before .before .before .before .loop-test .taken)
 
 loop-again : tie.Need-loop-again Inv-loop μ-loop
-loop-again c = survey-keeps (c .before .before .before .before .before .before .before .before .before .before .before .loop .inv) (c .before .before .before .before .before .before .before .before .before .before .before .before .before .before .before .pre .0) (c .before .before .before .before .before .before .before .before .before .before .loop-test .taken) (c .before .before .before .before .before .before .before .before .next .ensures) (c .before .before .before .before .before .before .next2 .given .1) (c .before .before .is-there .ensures) (c .before .if2 .left) (c .before .before .before .is-last .ensures) (c .if3 .taken)
+loop-again c = (passing-keeps (c .before .before .before .before .before .before .before .before .before .before .before .before .before .before .before .before .before .before .before .before .before .before .pre .1 .0) (c .before .before .before .before .before .before .before .before .before .before .before .before .before .before .before .before .before .before .before .before .before .before .pre .0 .fits) (c .before .before .before .before .before .before .before .before .before .before .before .before .before .loop .inv .0) (c .before .before .before .before .before .before .before .before .before .before .before .before .loop-test .taken) (c .before .before .before .before .before .before .before .before .before .before .next .ensures) (c .before .before .before .before .before .before .before .before .next2 .given .1) (mark-tells (c .before .before .before .before .before .before .before .before .before .before .before .before .before .before .before .before .before .before .before .before .before .before .pre .1 .0) (c .before .before .before .before .before .before .before .before .before .before .before .before .before .before .before .before .before .before .before .before .before .before .pre .0 .fits) (c .before .before .before .before .before .before .before .before .before .before .before .before .before .loop .inv .0) (c .before .before .before .before .before .before .before .before .before .before .before .before .loop-test .taken) (c .before .before .before .before .before .before .before .before .before .before .next .ensures) (c .before .before .before .before .before .before .before .before .next2 .given .1) (c .before .before .before .before .before .window-at .ensures) (c .before .is-marked .ensures)) (c .if1 .taken), at-hand-next (c .before .before .before .before .before .window-at .ensures) (omega arith) (c .before .before .before .before .area2 .given ∙ c .before .before .before .before .before .before .before .before .before .before .before .before .before .loop .inv .1 .long))
 
 loop-less-2 : tie.Need-loop-less-2 Inv-loop μ-loop
-loop-less-2 c = omega (arith, survey-on (c .before .before .before .before .before .before .before .before .before .before .before .loop .inv) (c .before .before .before .before .before .before .before .before .before .before .before .before .before .before .before .pre .0) (c .before .before .before .before .before .before .before .before .before .before .loop-test .taken) (c .before .before .before .before .before .before .before .before .next .ensures) (c .before .before .before .before .before .before .next2 .given .1), c .before .before .before .before .before .before .before .before .before .before .loop-test .taken)
+loop-less-2 c = omega (arith, passing-on (c .before .before .before .before .before .before .before .before .before .before .before .before .before .before .before .before .before .before .before .before .before .before .pre .1 .0) (c .before .before .before .before .before .before .before .before .before .before .before .before .before .before .before .before .before .before .before .before .before .before .pre .0 .fits) (c .before .before .before .before .before .before .before .before .before .before .before .before .before .loop .inv .0) (c .before .before .before .before .before .before .before .before .before .before .before .before .loop-test .taken) (c .before .before .before .before .before .before .before .before .before .before .next .ensures) (c .before .before .before .before .before .before .before .before .next2 .given .1), c .before .before .before .before .before .before .before .before .before .before .before .before .loop-test .taken)
 
 loop-again-2 : tie.Need-loop-again-2 Inv-loop μ-loop
-loop-again-2 c = survey-drops (c .before .before .before .before .before .before .before .before .before .before .before .loop .inv) (c .before .before .before .before .before .before .before .before .before .before .before .before .before .before .before .pre .0) (c .before .before .before .before .before .before .before .before .before .before .loop-test .taken) (c .before .before .before .before .before .before .before .before .next .ensures) (c .before .before .before .before .before .before .next2 .given .1) (c .before .before .is-there .ensures) (c .before .if2 .left) (c .before .before .before .is-last .ensures) (c .if3 .left)
+loop-again-2 c = (passing-drops (c .before .before .before .before .before .before .before .before .before .before .before .before .before .before .before .before .before .before .before .before .before .before .pre .1 .0) (c .before .before .before .before .before .before .before .before .before .before .before .before .before .before .before .before .before .before .before .before .before .before .pre .0 .fits) (c .before .before .before .before .before .before .before .before .before .before .before .before .before .loop .inv .0) (c .before .before .before .before .before .before .before .before .before .before .before .before .loop-test .taken) (c .before .before .before .before .before .before .before .before .before .before .next .ensures) (c .before .before .before .before .before .before .before .before .next2 .given .1) (mark-tells (c .before .before .before .before .before .before .before .before .before .before .before .before .before .before .before .before .before .before .before .before .before .before .pre .1 .0) (c .before .before .before .before .before .before .before .before .before .before .before .before .before .before .before .before .before .before .before .before .before .before .pre .0 .fits) (c .before .before .before .before .before .before .before .before .before .before .before .before .before .loop .inv .0) (c .before .before .before .before .before .before .before .before .before .before .before .before .loop-test .taken) (c .before .before .before .before .before .before .before .before .before .before .next .ensures) (c .before .before .before .before .before .before .before .before .next2 .given .1) (c .before .before .before .before .before .window-at .ensures) (c .before .is-marked .ensures)) (c .if1 .left), at-hand-next (c .before .before .before .before .before .window-at .ensures) (omega arith) (c .before .before .before .before .area2 .given ∙ c .before .before .before .before .before .before .before .before .before .before .before .before .before .loop .inv .1 .long))
 
-returns-4 : tie.Need-returns-4 Inv-loop μ-loop
-returns-4 c = survey-good (c .before .before .loop .inv) (c .before .before .before .before .before .before .pre .0) (c .before .loop-test .left) (c .before .before .before .before .before .before .pre .1) (c .if4 .taken)
+same-length-2 : tie.Need-same-length-2 Inv-loop μ-loop
+same-length-2 c = c .before .loop .inv .1 .long ∙ c .before .before .before .area .given
 
-returns-5 : tie.Need-returns-5 Inv-loop μ-loop
-returns-5 c = survey-few (c .before .before .loop .inv) (c .before .before .before .before .before .before .pre .0) (c .before .loop-test .left) (c .if4 .left)
+returns-2 : tie.Need-returns-2 Inv-loop μ-loop
+returns-2 c = passing-end (c .before .before .before .before .before .before .before .before .before .before .pre .1 .0) (c .before .before .before .before .before .before .before .before .before .before .pre .0 .fits) (c .before .loop .inv .0) (c .loop-test .left)
 
 pub survey-spec : {M : Type 1} → statement M
 survey-spec =
@@ -87,6 +89,7 @@ survey-spec =
     (tie.spec
     Inv-loop
     μ-loop
+    mark-last-requires
     loop-holds
     sub-next
     part-next-start
@@ -94,18 +97,17 @@ survey-spec =
     next-requires
     enum-known-next
     enum-told
+    same-length
     returns
-    returns-2
-    is-last-requires
-    is-there-requires
-    returns-3
     add-behind
-    add-seen
+    window-at-requires
+    sub-is-marked
+    is-marked-requires
     add-count
     add-len
     loop-less
     loop-again
     loop-less-2
     loop-again-2
-    returns-4
-    returns-5)
+    same-length-2
+    returns-2)

@@ -1,68 +1,93 @@
--- `messages::next` meets its contract.
+-- `messages::next` meets its contract: both key fields and then the others, or what `next_any` gives.
 -- Assumes nothing.
 use mathlib.Core.Path.{sym, _∙_}
 use native.Mathlib.Omega.{arith}
 use borrow.Author.Needs.{needs}
-use Rattle.messages.proofs.Keyed.{first-stops, first-inside, second-stops, second-inside, third-stops, message-is, first-falls, second-falls, third-falls, rest-bound}
+use Rattle.messages.proofs.Keyed.{rest-bound}
+use Rattle.messages.proofs.Past.{rest-message, rest-stops, all-past, whole, behind-falls, few-fields}
 use Rattle.messages.proofs.next.Statement.{statement}
 use Rattle.messages.proofs.next.Tie as tie
 
-key-word-requires : tie.Need-key-word-requires
-key-word-requires c κs = (c .before .before .pre .good, (first-falls _ _ _ (c .before .before .pre), (c .before .before .pre .first, omega arith)))
+add-front : tie.Need-add-front
+add-front c = omega (arith, few-fields _ _ _ (c .before .before .before .pre))
 
-enum-known-one : tie.Need-enum-known-one
-enum-known-one c = search needs
+add-front-2 : tie.Need-add-front-2
+add-front-2 c = omega (arith, few-fields _ _ _ (c .before .before .before .pre))
 
-enum-known-one-2 : tie.Need-enum-known-one-2
-enum-known-one-2 c = search needs
+add-made : tie.Need-add-made
+add-made c = omega (arith, few-fields _ _ _ (c .before .before .before .before .pre))
+
+sub-next-any : tie.Need-sub-next-any
+sub-next-any c = search needs
+
+part-next-any-start : tie.Need-part-next-any-start
+part-next-any-start c = search needs
+
+part-next-any-end : tie.Need-part-next-any-end
+part-next-any-end c = search needs
+
+next-any-requires : tie.Need-next-any-requires
+next-any-requires c κs = search needs
+
+anew-requires : tie.Need-anew-requires
+anew-requires c κs = search needs
+
+returns : tie.Need-returns
+returns c = whole _ _ (c .anew .ensures ∙ c .before .next-any .ensures)
+
+past-keys-requires : tie.Need-past-keys-requires
+past-keys-requires c κs = search needs
+
+sub-next-any-2 : tie.Need-sub-next-any-2
+sub-next-any-2 c = search needs
+
+part-next-any-start-2 : tie.Need-part-next-any-start-2
+part-next-any-start-2 c = search needs
+
+part-next-any-end-2 : tie.Need-part-next-any-end-2
+part-next-any-end-2 c = search needs
+
+next-any-requires-2 : tie.Need-next-any-requires-2
+next-any-requires-2 c κs = search needs
+
+anew-requires-2 : tie.Need-anew-requires-2
+anew-requires-2 c κs = search needs
+
+returns-2 : tie.Need-returns-2
+returns-2 c = whole _ _ (c .anew2 .ensures ∙ c .before .next-any2 .ensures)
 
 add-from : tie.Need-add-from
-add-from c = omega (arith, second-falls _ _ _ (c .before .before .before .before .before .before .before .pre) .inside)
-
-mul-from : tie.Need-mul-from
-mul-from c = omega (arith, second-falls _ _ _ (c .before .before .before .before .before .before .before .pre) .inside)
+add-from c = search needs
 
 add-from-2 : tie.Need-add-from-2
-add-from-2 c = omega (arith, second-falls _ _ _ (c .before .before .before .before .before .before .before .before .pre) .inside)
+add-from-2 c = search needs
 
-sub-key-word : tie.Need-sub-key-word
-sub-key-word c = first-inside _ _ _ _ (c .before .before .before .before .before .before .before .before .before .pre) (c .before .before .before .before .before .before .key-word .ensures) (c .before .before .before .before .one2 .given .1)
+mul-from : tie.Need-mul-from
+mul-from c = search needs
 
-part-key-word-start : tie.Need-part-key-word-start
-part-key-word-start c = first-inside _ _ _ _ (c .before .before .before .before .before .before .before .before .before .pre) (c .before .before .before .before .before .before .key-word .ensures) (c .before .before .before .before .one2 .given .1)
+add-from-3 : tie.Need-add-from-3
+add-from-3 c = search needs
 
-part-key-word-end : tie.Need-part-key-word-end
-part-key-word-end c = search needs
+past-ints-requires : tie.Need-past-ints-requires
+past-ints-requires c κs = (c .before .before .before .before .before .before .before .before .before .pre .good, behind-falls _ _ _ (c .before .before .before .before .before .before .before .before .before .pre))
 
-key-word-requires-2 : tie.Need-key-word-requires-2
-key-word-requires-2 c κs = (c .before .before .before .before .before .before .before .before .before .before .pre .good, (second-falls _ _ _ (c .before .before .before .before .before .before .before .before .before .before .pre), (c .before .before .before .before .before .before .before .before .before .before .pre .second, rest-bound (c .before .before .before .before .before .before .before .before .before .before .args .part .now) (first-inside _ _ _ _ (c .before .before .before .before .before .before .before .before .before .before .pre) (c .before .before .before .before .before .before .before .key-word .ensures) (c .before .before .before .before .before .one2 .given .1)) (omega arith))))
+key-by-requires : tie.Need-key-by-requires
+key-by-requires c κs = search needs
 
-enum-known-other : tie.Need-enum-known-other
-enum-known-other c = search needs
-
-enum-known-other-2 : tie.Need-enum-known-other-2
-enum-known-other-2 c = search needs
-
-add-behind : tie.Need-add-behind
-add-behind c = omega (arith, third-falls _ _ _ (c .before .before .before .before .before .before .before .before .before .before .before .before .before .before .before .pre) .inside)
-
-mul-behind : tie.Need-mul-behind
-mul-behind c = omega (arith, third-falls _ _ _ (c .before .before .before .before .before .before .before .before .before .before .before .before .before .before .before .pre) .inside)
-
-add-behind-2 : tie.Need-add-behind-2
-add-behind-2 c = omega (arith, third-falls _ _ _ (c .before .before .before .before .before .before .before .before .before .before .before .before .before .before .before .pre) .inside)
+returns-3 : tie.Need-returns-3
+returns-3 c = all-past _ _ _ _ (c .before .before .before .before .before .before .before .before .before .before .before .before .pre) (c .before .before .before .before .before .before .past-keys .ensures) (c .before .before .before .before .before .if2 .left) (c .before .before .before .before .before .before .before .if1 .left) (c .before .before .past-ints .ensures) (c .if3 .taken) (c .before .key-by .ensures)
 
 sub-skim : tie.Need-sub-skim
-sub-skim c = second-inside _ _ _ _ (c .before .before .before .before .before .before .before .before .before .before .before .before .before .before .before .pre) (c .before .before .before .before .before .before .before .before .before .before .before .before .key-word .ensures) (c .before .before .before .before .before .before .before .before .before .before .one2 .given .1) (c .before .before .before .before .key-word2 .ensures) (c .before .before .other2 .given .1)
+sub-skim c = search needs
 
 part-skim-start : tie.Need-part-skim-start
-part-skim-start c = second-inside _ _ _ _ (c .before .before .before .before .before .before .before .before .before .before .before .before .before .before .before .pre) (c .before .before .before .before .before .before .before .before .before .before .before .before .key-word .ensures) (c .before .before .before .before .before .before .before .before .before .before .one2 .given .1) (c .before .before .before .before .key-word2 .ensures) (c .before .before .other2 .given .1)
+part-skim-start c = search needs
 
 part-skim-end : tie.Need-part-skim-end
 part-skim-end c = search needs
 
 skim-requires : tie.Need-skim-requires
-skim-requires c κs = (c .before .before .before .before .before .before .before .before .before .before .before .before .before .before .before .before .pre .good, (third-falls _ _ _ (c .before .before .before .before .before .before .before .before .before .before .before .before .before .before .before .before .pre), rest-bound (c .before .before .before .before .before .before .before .before .before .before .before .before .before .before .before .before .args .part .now) (second-inside _ _ _ _ (c .before .before .before .before .before .before .before .before .before .before .before .before .before .before .before .before .pre) (c .before .before .before .before .before .before .before .before .before .before .before .before .before .key-word .ensures) (c .before .before .before .before .before .before .before .before .before .before .before .one2 .given .1) (c .before .before .before .before .before .key-word2 .ensures) (c .before .before .before .other2 .given .1)) (omega (arith, c .before .before .before .before .before .before .before .before .before .before .before .before .before .before .before .before .good .1 .1 .1 .0 .1))))
+skim-requires c κs = (c .before .before .before .before .before .before .before .before .before .before .before .before .before .pre .good, (behind-falls _ _ _ (c .before .before .before .before .before .before .before .before .before .before .before .before .before .pre), rest-bound (c .before .before .before .before .before .before .before .before .before .before .before .before .before .args .part .now) (c .before .before .before .before .before .before .if2 .left) (omega (arith, c .before .before .before .before .before .before .before .before .before .before .before .before .before .good .1 .1 .1 .0 .1))))
 
 enum-known-got : tie.Need-enum-known-got
 enum-known-got c = search needs
@@ -70,48 +95,44 @@ enum-known-got c = search needs
 enum-known-got-2 : tie.Need-enum-known-got-2
 enum-known-got-2 c = search needs
 
-key-by-requires : tie.Need-key-by-requires
-key-by-requires c κs = search needs
-
-returns : tie.Need-returns
-returns c = first-stops _ _ _ _ (c .before .before .before .before .before .before .pre) (c .before .before .before .key-word .ensures) (c .before .one .given .1)
-
-returns-2 : tie.Need-returns-2
-returns-2 c = second-stops _ _ _ _ (c .before .before .before .before .before .before .before .before .before .before .before .before .before .before .pre) (c .before .before .before .before .before .before .before .before .before .before .before .key-word .ensures) (c .before .before .before .before .before .before .before .before .before .one2 .given .1) (c .before .before .before .key-word2 .ensures) (c .before .other .given .1)
-
-returns-3 : tie.Need-returns-3
-returns-3 c = third-stops _ _ _ _ (c .before .before .before .before .before .before .before .before .before .before .before .before .before .before .before .before .before .before .before .before .pre) (c .before .before .before .before .before .before .before .before .before .before .before .before .before .before .before .before .before .key-word .ensures) (c .before .before .before .before .before .before .before .before .before .before .before .before .before .before .before .one2 .given .1) (c .before .before .before .before .before .before .before .before .before .key-word2 .ensures) (c .before .before .before .before .before .before .before .other2 .given .1) (sym (c .before .got .given .1) ∙ c .before .before .before .skim .ensures)
-
 returns-4 : tie.Need-returns-4
-returns-4 c = message-is _ _ _ _ (c .before .before .before .before .before .before .before .before .before .before .before .before .before .before .before .before .before .before .before .before .before .pre) (c .before .before .before .before .before .before .before .before .before .before .before .before .before .before .before .before .before .before .key-word .ensures) (c .before .before .before .before .before .before .before .before .before .before .before .before .before .before .before .before .one2 .given .1) (c .before .before .before .before .before .before .before .before .before .before .key-word2 .ensures) (c .before .before .before .before .before .before .before .before .other2 .given .1) (sym (c .before .before .got2 .given .1) ∙ c .before .before .before .before .skim .ensures) (c .key-by .ensures)
+returns-4 c = rest-stops _ _ _ _ (c .before .before .before .before .before .before .before .before .before .before .before .before .before .before .before .before .before .pre) (c .before .before .before .before .before .before .before .before .before .before .before .past-keys .ensures) (c .before .before .before .before .before .before .before .before .before .before .if2 .left) (c .before .before .before .before .before .before .before .before .before .before .before .before .if1 .left) (sym (c .before .got .given .1) ∙ c .before .before .before .skim .ensures)
+
+returns-5 : tie.Need-returns-5
+returns-5 c = rest-message _ _ _ _ (c .before .before .before .before .before .before .before .before .before .before .before .before .before .before .before .before .before .pre) (c .before .before .before .before .before .before .before .before .before .before .before .past-keys .ensures) (c .before .before .before .before .before .before .before .before .before .before .if2 .left) (c .before .before .before .before .before .before .before .before .before .before .before .before .if1 .left) (sym (c .before .got2 .given .1) ∙ c .before .before .before .skim .ensures) (c .before .before .before .before .before .before .key-by .ensures)
 
 pub next-spec : {M : Type 1} → statement M
 next-spec =
     tie.close
     (tie.spec
-    key-word-requires
-    enum-known-one
-    enum-known-one-2
+    add-front
+    add-front-2
+    add-made
+    sub-next-any
+    part-next-any-start
+    part-next-any-end
+    next-any-requires
+    anew-requires
+    returns
+    past-keys-requires
+    sub-next-any-2
+    part-next-any-start-2
+    part-next-any-end-2
+    next-any-requires-2
+    anew-requires-2
+    returns-2
     add-from
-    mul-from
     add-from-2
-    sub-key-word
-    part-key-word-start
-    part-key-word-end
-    key-word-requires-2
-    enum-known-other
-    enum-known-other-2
-    add-behind
-    mul-behind
-    add-behind-2
+    mul-from
+    add-from-3
+    past-ints-requires
+    key-by-requires
+    returns-3
     sub-skim
     part-skim-start
     part-skim-end
     skim-requires
     enum-known-got
     enum-known-got-2
-    key-by-requires
-    returns
-    returns-2
-    returns-3
-    returns-4)
+    returns-4
+    returns-5)

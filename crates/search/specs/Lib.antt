@@ -1,2 +1,0 @@
--- What the contracts of the searches cite.
-pub mod Places

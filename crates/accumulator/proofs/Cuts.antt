@@ -9,7 +9,7 @@ use borrow.Author.Tests.{le-leb}
 use lib.ListN.{length, take, drop, length-append, length-drop}
 use lib.Seq.{take-at, drop-append-add}
 use Rattle.wire.specs.Tests.{pick}
-use Rattle.wire.specs.Frames.{room, toZero, decode, framed, noMessage, feedOn, feedEnd, feedFit, feed}
+use Rattle.wire.specs.Frames.{room, toZero, decode, framed, noMessage, feedOn, feedEnd, feedFit, feedBy, rule, decodeBy}
 use Rattle.wire.specs.declared.FeedAnswer.the-variants.{Consumed}
 use Rattle.accumulator.specs.Parts.{with}
 use Rattle.accumulator.specs.Stream.{joined, Taken, at, behind, Ended, AnyCut}
@@ -39,14 +39,14 @@ record Has (array : List ℕ) (idx : ℕ) (s : List ℕ) : Type 0 where
   pub bytes : take idx array ≡ s
 
 module _ {array s : List ℕ} {idx : ℕ} (h : Has array idx s) where
-  feed-last : (t rest : List ℕ) → toZero t ≡ none → length (s ++ t) + 1 ≤ room → feed array idx (t ++ 0 ∷ rest) ≡ framed (decode (s ++ t)) rest array
-  unfolding feed feedFit feedEnd pick
+  feed-last : (t rest : List ℕ) → toZero t ≡ none → length (s ++ t) + 1 ≤ room → feedBy rule array idx (t ++ 0 ∷ rest) ≡ framed (decode (s ++ t)) rest array
+  unfolding feedBy feedFit feedEnd pick
   feed-last t rest clean fits =
       let few : idx + (length t + 1) ≤ room = omega (arith, length-append s t) in
       rw (le-leb idx room (omega arith), zero-behind t rest clean, le-leb (idx + (length t + 1)) room few, h .bytes, take-at t (0 ∷ rest) (length t) refl, drop-append-add t (0 ∷ rest) 1)
 
-  feed-more : (c : List ℕ) → toZero c ≡ none → length (s ++ c) ≤ room → feed array idx c ≡ noMessage Consumed [] (with array idx c) (idx + length c)
-  unfolding feed feedFit feedOn pick
+  feed-more : (c : List ℕ) → toZero c ≡ none → length (s ++ c) ≤ room → feedBy rule array idx c ≡ noMessage Consumed [] (with array idx c) (idx + length c)
+  unfolding feedBy feedFit feedOn pick
   feed-more c clean fits =
       let few : idx + length c ≤ room = omega (arith, length-append s c) in
       rw (le-leb idx room (omega arith), clean, le-leb (idx + length c) room few)
@@ -65,10 +65,10 @@ module _ (m behind′ : List ℕ) where
   last : {array s : List ℕ} {idx : ℕ} → Has array idx s → (t rest c : List ℕ) (cs : List (List ℕ)) → c ≡ t ++ 0 ∷ rest → toZero t ≡ none → length (s ++ t) + 1 ≤ room → decode (s ++ t) ≡ some m → rest ++ joined cs ≡ behind′ → Ended array idx (c ∷ cs) m behind′
   unfolding framed
   last {array} {s} {idx} h t rest c cs is clean fits good left =
-      let e : feed array idx c ≡ framed (some m) rest array = rw is (feed-last h t rest clean fits ∙ ap (λ (x : Option (List ℕ)). framed x rest array) good) in
-      record { fed = feed array idx c; later = cs; comes = at; answer = rw e; message = rw e; empty = rw e; rest = rw e left }
+      let e : feedBy rule array idx c ≡ framed (some m) rest array = rw is (feed-last h t rest clean fits ∙ ap (λ (x : Option (List ℕ)). framed x rest array) good) in
+      record { fed = feedBy rule array idx c; later = cs; comes = at; answer = rw e; message = rw e; empty = rw e; rest = rw e left }
 
-  go-on : {array : List ℕ} {idx : ℕ} {c : List ℕ} {cs : List (List ℕ)} → Taken (feed array idx c) → Ended (feed array idx c .array) (feed array idx c .idx) cs m behind′ → Ended array idx (c ∷ cs) m behind′
+  go-on : {array : List ℕ} {idx : ℕ} {c : List ℕ} {cs : List (List ℕ)} → Taken (feedBy rule array idx c) → Ended (feedBy rule array idx c .array) (feedBy rule array idx c .idx) cs m behind′ → Ended array idx (c ∷ cs) m behind′
   go-on t e = record { fed = e .fed; later = e .later; comes = behind t (e .comes); answer = e .answer; message = e .message; empty = e .empty; rest = e .rest }
 
   more : {array s : List ℕ} {idx : ℕ} → Has array idx s → (c r : List ℕ) (cs : List (List ℕ)) → toZero (c ++ r) ≡ none → length (s ++ c) ≤ room → (Has (with array idx c) (idx + length c) (s ++ c) → Ended (with array idx c) (idx + length c) cs m behind′) → Ended array idx (c ∷ cs) m behind′

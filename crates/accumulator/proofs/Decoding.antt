@@ -6,11 +6,15 @@ use mathlib.Core.Option.{Option, none, some, Option·map}
 use Prim.Native.Nat.{ℕ, zero, suc, _+_, _-_, _^_, _≤_, _<_}
 use native.Mathlib.Numerals.{add-one}
 use native.Mathlib.Omega.{arith}
-use lib.ListN.{length, take, drop, getD, replicate, length-append, length-replicate, length-drop, replicate-append-replicate, drop-of-length-le, take-append-drop}
+use borrow.Author.Tests.{eq-eqb, ne-eqb}
+use lib.Dec.{eqb}
+use mathlib.Core.Bool.{Bool, true, false}
+use Rattle.wire.specs.Tests.{pick}
+use lib.ListN.{length, take, drop, getD, replicate, length-append, length-replicate, length-drop, replicate-append-replicate, drop-of-length-le, take-append-drop, set}
 use lib.Seq.{drop-cons, take-at, drop-append-add, drop-at, drop-drop, length-take-le}
-use Rattle.wire.specs.Frames.{gapAfter, groups, decode, padded, room, toZero}
+use Rattle.wire.specs.Frames.{gapAfter, groupsBy, decode, padded, room, toZero, rule, decodeBy}
 use Rattle.accumulator.specs.Parts.{Decodable, Holds, with}
-use Rattle.accumulator.proofs.Chunks.{with-none}
+use Rattle.accumulator.proofs.Chunks.{with-none, with-one}
 use Rattle.accumulator.proofs.Search.{clean-front, clean-back, clean-head}
 
 -- ---- the message and the zeros behind it
@@ -48,17 +52,29 @@ pad-gap made gap fits =
 -- ---- groups
 
 gap-narrow : (c : ℕ) → gapAfter c ≤ 1
-unfolding gapAfter
-gap-narrow c = omega arith
+unfolding gapAfter pick
+gap-narrow c = by (eqb c 255)
+  where
+    by : (t : Bool) → pick t 0 1 ≤ 1
+    by true = omega arith
+    by false = omega arith
 
-group-short : (gap k : ℕ) (s : List ℕ) → length s < k → groups gap k s ≡ none
-unfolding groups
+pub gap-full : (c : ℕ) → c ≡ 255 → 0 ≡ gapAfter c
+unfolding gapAfter pick
+gap-full c is = rw (eq-eqb c 255 is)
+
+pub gap-other : (c : ℕ) → (c ≡ 255 → ⊥) → 1 ≡ gapAfter c
+unfolding gapAfter pick
+gap-other c ne = rw (ne-eqb c 255 ne)
+
+group-short : (gap k : ℕ) (s : List ℕ) → length s < k → groupsBy rule gap k s ≡ none
+unfolding groupsBy
 group-short gap zero s short = absurd (omega arith)
 group-short gap (suc k) [] short = refl
 group-short gap (suc k) (zero ∷ s) short = refl
 group-short gap (suc k) (suc b ∷ s) short = rw (group-short gap k s (omega arith))
 
-glued : (a b : List ℕ) (x : Option (List ℕ)) → Option·map (λ (m : List ℕ). a ++ m) (Option·map (λ (m : List ℕ). b ++ m) x) ≡ Option·map (λ (m : List ℕ). (a ++ b) ++ m) x
+pub glued : (a b : List ℕ) (x : Option (List ℕ)) → Option·map (λ (m : List ℕ). a ++ m) (Option·map (λ (m : List ℕ). b ++ m) x) ≡ Option·map (λ (m : List ℕ). (a ++ b) ++ m) x
 glued a b none = refl
 glued a b (some m) = ap some (sym (append-assoc a b m))
 
@@ -66,21 +82,21 @@ glued-none : (x : Option (List ℕ)) → Option·map (λ (m : List ℕ). [] ++ m
 glued-none none = refl
 glued-none (some m) = refl
 
-group-whole : (gap : ℕ) (s t : List ℕ) → toZero s ≡ none → groups gap (length s) (s ++ t) ≡ Option·map (λ (m : List ℕ). s ++ m) (groups gap 0 t)
-unfolding groups
-group-whole gap [] t clean = sym (glued-none (groups gap 0 t))
+pub group-whole : (gap : ℕ) (s t : List ℕ) → toZero s ≡ none → groupsBy rule gap (length s) (s ++ t) ≡ Option·map (λ (m : List ℕ). s ++ m) (groupsBy rule gap 0 t)
+unfolding groupsBy
+group-whole gap [] t clean = sym (glued-none (groupsBy rule gap 0 t))
 group-whole gap (zero ∷ s) t clean = absurd (clean-head 0 s clean refl)
 group-whole gap (suc b ∷ s) t clean =
-    rw (group-whole gap s t (clean-back (suc b ∷ []) s clean)) (glued (suc b ∷ []) s (groups gap 0 t))
+    rw (group-whole gap s t (clean-back (suc b ∷ []) s clean)) (glued (suc b ∷ []) s (groupsBy rule gap 0 t))
 
-group-code : (gap c : ℕ) (s : List ℕ) → (c ≡ 0 → ⊥) → groups gap 0 (c ∷ s) ≡ Option·map (λ (m : List ℕ). replicate gap 0 ++ m) (groups (gapAfter c) (c - 1) s)
-unfolding groups
+group-code : (gap c : ℕ) (s : List ℕ) → (c ≡ 0 → ⊥) → groupsBy rule gap 0 (c ∷ s) ≡ Option·map (λ (m : List ℕ). replicate gap 0 ++ m) (groupsBy rule (gapAfter c) (c - 1) s)
+unfolding groupsBy
 group-code gap zero s byte = absurd (byte refl)
 group-code gap (suc c) s byte = let e : suc c - 1 ≡ c = omega arith in rw e
 
 -- a frame with a zero in it is bad
-groups-zero : (gap k : ℕ) (s : List ℕ) → (toZero s ≡ none → ⊥) → groups gap k s ≡ none
-unfolding groups toZero
+groups-zero : (gap k : ℕ) (s : List ℕ) → (toZero s ≡ none → ⊥) → groupsBy rule gap k s ≡ none
+unfolding groupsBy toZero
 groups-zero gap k [] dirty = absurd (dirty refl)
 groups-zero gap zero (zero ∷ s) dirty = refl
 groups-zero gap (suc k) (zero ∷ s) dirty = refl
@@ -88,7 +104,7 @@ groups-zero gap zero (suc c ∷ s) dirty = rw (groups-zero (gapAfter (suc c)) c 
 groups-zero gap (suc k) (suc b ∷ s) dirty = rw (groups-zero gap k s (λ e. dirty (rw e)))
 
 decode-zero : (s : List ℕ) → (toZero s ≡ none → ⊥) → decode s ≡ none
-unfolding decode
+unfolding decodeBy
 decode-zero s dirty = groups-zero 0 0 s dirty
 
 -- so a good one has none
@@ -110,7 +126,7 @@ front-zero front back is =
 
 -- the message of a frame of which `made` is decoded and `s` is left
 unfoldable pub told : ℕ → List ℕ → List ℕ → Option (List ℕ)
-told gap made s = Option·map (λ (m : List ℕ). made ++ m) (groups gap 0 s)
+told gap made s = Option·map (λ (m : List ℕ). made ++ m) (groupsBy rule gap 0 s)
 
 module _ (gap : ℕ) (made s : List ℕ) (c : ℕ) (byte : c ≡ 0 → ⊥) where
   told-group : toZero s ≡ none → c - 1 ≤ length s → told gap made (c ∷ s) ≡ told (gapAfter c) ((made ++ replicate gap 0) ++ take (c - 1) s) (drop (c - 1) s)
@@ -118,9 +134,9 @@ module _ (gap : ℕ) (made s : List ℕ) (c : ℕ) (byte : c ≡ 0 → ⊥) wher
   told-group clean fits =
       let part = take (c - 1) s in
       let back = drop (c - 1) s in
-      let then = groups (gapAfter c) 0 back in
+      let then = groupsBy rule (gapAfter c) 0 back in
       let whole = group-whole (gapAfter c) part back (clean-front part back (rw (take-append-drop (c - 1) s) clean)) in
-      let whole′ : groups (gapAfter c) (c - 1) s ≡ Option·map (λ (m : List ℕ). part ++ m) then =
+      let whole′ : groupsBy rule (gapAfter c) (c - 1) s ≡ Option·map (λ (m : List ℕ). part ++ m) then =
       rw (length-take-le (c - 1) s fits, take-append-drop (c - 1) s) at whole
       in
       rw (group-code gap c s byte, whole′) (glued made (replicate gap 0) (Option·map (λ (m : List ℕ). part ++ m) then) ∙ glued (made ++ replicate gap 0) part then)
@@ -139,15 +155,15 @@ pub record Decoding (frame : List ℕ) (gap len i : ℕ) (message : List ℕ) : 
   pub same : told gap made (drop i frame) ≡ decode frame
 
 pub decoding-none : {frame message : List ℕ} → Decodable frame message → Decoding frame 0 0 0 message
-unfolding told decode
-decoding-none {frame} h = record { made = []; bytes = h .zeros; count = refl; within = omega arith; fits = omega (arith, h .fits); clean = h .clean; same = glued-none (groups 0 0 frame) }
+unfolding told decodeBy
+decoding-none {frame} h = record { made = []; bytes = h .zeros; count = refl; within = omega arith; fits = omega (arith, h .fits); clean = h .clean; same = glued-none (groupsBy rule 0 0 frame) }
 
 module _ {frame message : List ℕ} {gap len i : ℕ} (h : Decoding frame gap len i message) where
   pub decoding-long : length message ≡ room
   decoding-long = rw (h .bytes) (length-padded (h .made) (omega arith))
 
   pub decoding-end : length frame ≤ i → Holds (decode frame) message len
-  unfolding told groups
+  unfolding told groupsBy
   decoding-end hi = record {
     made = h .made;
     is = sym (h .same) ∙ rw (drop-of-length-le frame hi, append-nil);
@@ -230,3 +246,27 @@ module _ {frame message : List ℕ} {gap len i : ℕ} (h : Decoding frame gap le
         let place : i + 1 + (code - 1) ≡ i + 1 = omega arith in
         let made : len + gap + (code - 1) ≡ len + gap = omega arith in
         rw (same, place, made) at (decoding-more fits)
+
+    -- a group of one byte
+    pub decoding-one : code ≡ 2 → (i + 1 ≡ length frame → ⊥) → Decoding frame (gapAfter code) (len + gap + 1) (i + 1 + 1) (set message (len + gap) (getD frame (i + 1) 0))
+    decoding-one is more =
+        let fits : code - 1 ≤ length frame - (i + 1) = omega arith in
+        let one : i + 1 + (code - 1) - (i + 1) ≡ 1 = omega arith in
+        let byte : part fits ≡ getD frame (i + 1) 0 ∷ [] = rw (one, drop-cons frame (i + 1) 0 (omega arith)) in
+        let same : with message (len + gap) (part fits) ≡ set message (len + gap) (getD frame (i + 1) 0) = rw byte (with-one message (len + gap) (getD frame (i + 1) 0) (omega (arith, decoding-long))) in
+        let place : i + 1 + (code - 1) ≡ i + 1 + 1 = omega arith in
+        let made : len + gap + (code - 1) ≡ len + gap + 1 = omega arith in
+        rw (same, place, made) at (decoding-more fits)
+
+    pub decoding-cut : code ≡ 2 → i + 1 ≡ length frame → decode frame ≡ none
+    decoding-cut is end = decoding-short (omega arith)
+
+    pub one-fits : (i + 1 ≡ length frame → ⊥) → len + gap + 1 < 2 ^ 64
+    unfolding room
+    one-fits more = omega arith
+
+    pub one-inside : (i + 1 ≡ length frame → ⊥) → len + gap < length message
+    one-inside more = omega (arith, decoding-long)
+
+    pub one-closer : (i + 1 ≡ length frame → ⊥) → length frame - (i + 1 + 1) < length frame - i
+    one-closer more = omega arith

@@ -5,3 +5,4 @@ pub mod Feeding
 pub mod Unique
 pub mod Progress
 pub mod Cuts
+pub mod OldRoom

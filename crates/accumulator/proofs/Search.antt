@@ -10,14 +10,9 @@ use lib.ListN.{length, take, drop, getD, drop-of-length-le}
 use lib.Seq.{drop-cons}
 use Rattle.wire.specs.Frames.{toZero}
 use Rattle.accumulator.specs.declared.Found.the-variants.{At, Nothing}
-use Rattle.accumulator.specs.Parts.{foundOf}
+use Rattle.accumulator.specs.Parts.{foundOf, Seeks}
 
 -- ---- the search
-
--- the first i bytes hold no zero
-pub record Seeks (s : List ℕ) (i : ℕ) : Type 0 where
-  pub within : i ≤ length s
-  pub same : Option·map (λ (n : ℕ). n + i) (toZero (drop i s)) ≡ toZero s
 
 shift-none : (x : Option ℕ) → Option·map (λ (n : ℕ). n + 0) x ≡ x
 shift-none none = refl
@@ -58,6 +53,15 @@ module _ {s : List ℕ} {i : ℕ} (h : Seeks s i) where
   pub seeks-end : length s ≤ i → Nothing ≡ foundOf (toZero s)
   unfolding foundOf
   seeks-end hi = ap foundOf (sym (none-left i s hi) ∙ h .same)
+
+pub seeks-four : {s : List ℕ} {i : ℕ} → Seeks s i → i + 4 ≤ length s → (getD s i 0 ≡ 0 → ⊥) → (getD s (i + 1) 0 ≡ 0 → ⊥) → (getD s (i + 2) 0 ≡ 0 → ⊥) → (getD s (i + 3) 0 ≡ 0 → ⊥) → Seeks s (i + 4)
+seeks-four {s} {i} h lo b0 b1 b2 b3 =
+    let two : i + 1 + 1 ≡ i + 2 = omega arith in
+    let three : i + 2 + 1 ≡ i + 3 = omega arith in
+    let four : i + 3 + 1 ≡ i + 4 = omega arith in
+    let at2 : Seeks s (i + 2) = rw two at (seeks-more (seeks-more h (omega arith) b0) (omega arith) b1) in
+    let at3 : Seeks s (i + 3) = rw three at (seeks-more at2 (omega arith) b2) in
+    rw four at (seeks-more at3 (omega arith) b3)
 
 pub found-at : {n : ℕ} (x : Option ℕ) → At n ≡ foundOf x → x ≡ some n
 unfolding foundOf

@@ -6,7 +6,7 @@ use Prim.Native.Nat.{ℕ, _≤_}
 use lib.ListN.{length, drop}
 use lib.Dec.{eqb}
 use Rattle.wire.specs.Tests.{pick, both}
-use Rattle.wire.specs.Frames.{room, noMessage, padded, feed}
+use Rattle.wire.specs.Frames.{room, noMessage, padded, feedBy, rule}
 use Rattle.wire.specs.Frames as frames
 use Rattle.wire.specs.declared.FeedAnswer.{FeedAnswer}
 use Rattle.wire.specs.declared.FeedAnswer.the-variants.{BadState}
@@ -26,7 +26,7 @@ written f = record { fed = f; message = padded (f .message) }
 unfoldable pub feedLent : (array : List ℕ) (idx : ℕ) (chunk message : List ℕ) → Lent
 feedLent array idx chunk message =
     pick (both (eqb (length array) room) (eqb (length message) room))
-    (written (feed array idx chunk))
+    (written (feedBy rule array idx chunk))
     (record { fed = noMessage BadState chunk array idx; message = message })
 
 -- an answer that comes with no message
@@ -43,10 +43,13 @@ pub record Feeds (f : Lent) (chunk array′ message′ : List ℕ) (r : Step) : 
   pub array : array′ ≡ f .fed .array
   pub message : message′ ≡ f .message
 
+-- the step of a feed by value
+abbrev pub stepOf : Fed → Step
+stepOf r = record { answer = r .answer; idx = r .state .idx; len = r .len; used = r .used }
+
 -- the same, of a state by value
 abbrev pub FeedsBy : frames.Fed → List ℕ → Fed → Type 0
-FeedsBy f chunk r =
-    Feeds (written f) chunk (r .state .array) (r .message) (record { answer = r .answer; idx = r .state .idx; len = r .len; used = r .used })
+FeedsBy f chunk r = Feeds (written f) chunk (r .state .array) (r .message) (stepOf r)
 
 -- two answers that meet a contract are equal, lent memory included
 abbrev pub OneStep : Type 0

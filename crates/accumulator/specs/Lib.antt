@@ -1,3 +1,4 @@
 pub mod Feeding
 pub mod Parts
 pub mod Stream
+pub mod OldRoom

@@ -2,7 +2,7 @@
 -- Assumes nothing.
 use mathlib.Core.Path.{_≡_}
 use mathlib.Core.List.{List, [], _++_}
-use mathlib.Core.Option.{Option, none, some}
+use mathlib.Core.Option.{Option, none, some, Option·map}
 use Prim.Native.Nat.{ℕ, _+_, _≤_}
 use lib.ListN.{length, take, drop}
 use Rattle.wire.specs.Frames.{room, toZero, padded}
@@ -14,6 +14,11 @@ use Rattle.accumulator.specs.declared.Decoded.the-variants.{Message, Bad
 unfoldable pub foundOf : Option ℕ → Found
 foundOf none = Nothing
 foundOf (some n) = At n
+
+-- the first i bytes hold no zero
+pub record Seeks (s : List ℕ) (i : ℕ) : Type 0 where
+  pub within : i ≤ length s
+  pub same : Option·map (λ (n : ℕ). n + i) (toZero (drop i s)) ≡ toZero s
 
 -- an array with a part in it, from `at` on
 abbrev pub with : List ℕ → ℕ → List ℕ → List ℕ

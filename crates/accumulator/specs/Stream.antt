@@ -6,7 +6,7 @@ use mathlib.Core.Option.{some}
 use Prim.Native.Nat.{ℕ, _+_, _≤_}
 use lib.ListN.{length}
 use Rattle.wire.specs.declared.FeedAnswer.the-variants.{Consumed, Frame}
-use Rattle.wire.specs.Frames.{Fed, room, decode, feed}
+use Rattle.wire.specs.Frames.{Fed, room, decode, feedBy, rule}
 
 unfoldable pub joined : List (List ℕ) → List ℕ
 joined [] = []
@@ -20,8 +20,8 @@ pub record Taken (f : Fed) : Type 0 where
 
 -- chunks are fed in order, each to the state that the one before it left: all are taken whole up to one that answers f, and others are still to come
 pub data Comes : (array : List ℕ) (idx : ℕ) (chunks : List (List ℕ)) (f : Fed) (later : List (List ℕ)) → Type 0 where
-  at : {array : List ℕ} {idx : ℕ} {c : List ℕ} {cs : List (List ℕ)} → Comes array idx (c ∷ cs) (feed array idx c) cs
-  behind : {array : List ℕ} {idx : ℕ} {c : List ℕ} {cs later : List (List ℕ)} {f : Fed} → Taken (feed array idx c) → Comes (feed array idx c .array) (feed array idx c .idx) cs f later → Comes array idx (c ∷ cs) f later
+  at : {array : List ℕ} {idx : ℕ} {c : List ℕ} {cs : List (List ℕ)} → Comes array idx (c ∷ cs) (feedBy rule array idx c) cs
+  behind : {array : List ℕ} {idx : ℕ} {c : List ℕ} {cs later : List (List ℕ)} {f : Fed} → Taken (feedBy rule array idx c) → Comes (feedBy rule array idx c .array) (feedBy rule array idx c .idx) cs f later → Comes array idx (c ∷ cs) f later
 
 -- one of the chunks answers 23 with a message, leaves the state empty, and its rest and the later chunks hold what stands behind the frame
 pub record Ended (array : List ℕ) (idx : ℕ) (chunks : List (List ℕ)) (m behind : List ℕ) : Type 0 where

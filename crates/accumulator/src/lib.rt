@@ -6,12 +6,12 @@ ghost use mathlib.Core.List.{[], _++_};
 ghost use Prim.Native.Nat.{_+_, _≤_};
 ghost use lib.ListN.{length, drop, replicate};
 ghost use Rattle.wire.specs.Frames.{room, gapAfter, toZero, padded, feedOn, feedEnd};
-ghost use Rattle.wire.specs.Frames.{decode as messageOf, feed as fedBy};
+ghost use Rattle.wire.specs.Frames.{decode as messageOf, rule, feedBy};
 ghost use Rattle.accumulator.specs.Feeding.{written, feedLent, without, Feeds, FeedsBy};
-ghost use Rattle.accumulator.specs.Parts.{foundOf, with, Decodable, Decodes, Joinable, Endable};
+ghost use Rattle.accumulator.specs.Parts.{foundOf, Seeks, with, Decodable, Decodes, Joinable, Endable};
 
 // The bytes that a frame may have, its closing zero among them.
-pub const ROOM: usize = 256;
+pub const ROOM: usize = 2048;
 
 // The state: a frame's first idx bytes stand in the array's front.
 pub struct Accumulator {
@@ -48,10 +48,34 @@ enum Decoded {
     Bad,
 }
 
+// A place in front of which there is no zero: the first zero stands in the four bytes from there, or the end does. Four
+// are tested in a turn, for speed.
+fn near_zero(s: &[u8]) -> usize
+    ensures { λ r. ⌜ Seeks (now (s .entry)) r ⌝ }
+{
+    let mut i = 0;
+    while 4 <= s.len() - i {
+        if s[i] == 0 {
+            return i;
+        }
+        if s[i + 1] == 0 {
+            return i;
+        }
+        if s[i + 2] == 0 {
+            return i;
+        }
+        if s[i + 3] == 0 {
+            return i;
+        }
+        i += 4;
+    }
+    i
+}
+
 fn first_zero(s: &[u8]) -> Found
     ensures { λ r. ⌜ r ≡ foundOf (toZero (now (s .entry))) ⌝ }
 {
-    let mut i = 0;
+    let mut i = near_zero(s);
     while i < s.len() {
         if s[i] == 0 {
             return Found::At(i);
@@ -94,6 +118,9 @@ fn zeros() -> [u8; ROOM]
 fn gap_after(code: u8) -> usize
     ensures { λ r. ⌜ r ≡ gapAfter code ⌝ }
 {
+    if code == 255 {
+        return 0;
+    }
     1
 }
 
@@ -116,6 +143,15 @@ fn decode(frame: &[u8], message: &mut [u8]) -> Decoded
             len = to;
             gap = after;
             i = from;
+        } else if code == 2 {
+            // One byte wants no loop.
+            if from == frame.len() {
+                return Decoded::Bad;
+            }
+            message[to] = frame[from];
+            len = to + 1;
+            gap = after;
+            i = from + 1;
         } else {
             let count = code as usize - 1;
             if frame.len() - from < count {
@@ -131,11 +167,15 @@ fn decode(frame: &[u8], message: &mut [u8]) -> Decoded
     Decoded::Message(len)
 }
 
-// The message of a frame that stands in two parts, of which only the first can hold a zero.
+// The message of a frame that stands in two parts, of which only the first can hold a zero. A frame that came in one chunk
+// is decoded where it stands; any other is joined first.
 fn decode_parts(front: &[u8], back: &[u8], message: &mut [u8]) -> Decoded
     requires { ⌜ Joinable (now front) (now back) (now message) ⌝ }
     ensures { λ r. ⌜ Decodes (messageOf (now (front .entry) ++ now (back .entry))) (now (message .exit)) r ⌝ }
 {
+    if front.len() == 0 {
+        return decode(back, message);
+    }
     let found = first_zero(front);
     let Found::Nothing = found else {
         return Decoded::Bad;
@@ -163,7 +203,7 @@ fn no_message(answer: FeedAnswer, idx: usize, used: usize) -> Step
 // A chunk with no zero in it.
 fn feed_on(array: &mut [u8], idx: usize, chunk: &[u8]) -> Step
     requires { ⌜ (idx ≤ room) × (length (now array) ≡ room) ⌝ }
-    ensures { λ r. ⌜ Feeds (written (feedOn (now (array .entry)) idx (now (chunk .entry)))) (now (chunk .entry)) (now (array .exit)) (padded []) r ⌝ }
+    ensures { λ r. ⌜ Feeds (written (feedOn rule (now (array .entry)) idx (now (chunk .entry)))) (now (chunk .entry)) (now (array .exit)) (padded []) r ⌝ }
 {
     let free = ROOM - idx;
     let all = chunk.len();
@@ -178,7 +218,7 @@ fn feed_on(array: &mut [u8], idx: usize, chunk: &[u8]) -> Step
 // A chunk whose first zero is at n: the end of the frame whose front the array holds.
 fn feed_end(array: &[u8], idx: usize, chunk: &[u8], n: usize, message: &mut [u8]) -> Step
     requires { ⌜ Endable (now array) idx (now chunk) n (now message) ⌝ }
-    ensures { λ r. ⌜ Feeds (written (feedEnd (now (array .entry)) idx (now (chunk .entry)) n)) (now (chunk .entry)) (now (array .entry)) (now (message .exit)) r ⌝ }
+    ensures { λ r. ⌜ Feeds (written (feedEnd rule (now (array .entry)) idx (now (chunk .entry)) n)) (now (chunk .entry)) (now (array .entry)) (now (message .exit)) r ⌝ }
 {
     let used = n + 1;
     if ROOM - idx < used {
@@ -202,7 +242,7 @@ fn feed_end(array: &[u8], idx: usize, chunk: &[u8], n: usize, message: &mut [u8]
 // A feed whose slices have the room's length, and whose message is all zeros.
 fn feed_cleared(array: &mut [u8], idx: usize, chunk: &[u8], message: &mut [u8]) -> Step
     requires { ⌜ (length (now array) ≡ room) × (now message ≡ padded []) ⌝ }
-    ensures { λ r. ⌜ Feeds (written (fedBy (now (array .entry)) idx (now (chunk .entry)))) (now (chunk .entry)) (now (array .exit)) (now (message .exit)) r ⌝ }
+    ensures { λ r. ⌜ Feeds (written (feedBy rule (now (array .entry)) idx (now (chunk .entry)))) (now (chunk .entry)) (now (array .exit)) (now (message .exit)) r ⌝ }
 {
     if ROOM < idx {
         return no_message(FeedAnswer::BadState, idx, 0);
@@ -240,7 +280,7 @@ impl Accumulator {
 
 // Feeds a chunk to a state by value.
 pub fn feed(state: Accumulator, chunk: &[u8]) -> Fed
-    ensures { λ r. ⌜ FeedsBy (fedBy (state .array) (state .idx) (now (chunk .entry))) (now (chunk .entry)) r ⌝ }
+    ensures { λ r. ⌜ FeedsBy (feedBy rule (state .array) (state .idx) (now (chunk .entry))) (now (chunk .entry)) r ⌝ }
 {
     let mut array = state.array;
     let idx = state.idx;

@@ -20,7 +20,7 @@ const WORDS: usize = 256 * entry::WORDS;
 
 pub const OUT: usize = 1024;
 
-const ROOM: usize = 256;
+const ROOM: usize = 2048;
 
 // What stands in lent memory before a call.
 const BEFORE: u64 = 11936128518282651045;

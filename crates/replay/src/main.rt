@@ -91,6 +91,7 @@ fn main() {
     replay(Kind::Write, b"writing");
     replay(Kind::Append, b"appending");
     replay(Kind::Feed, b"feeding");
+    replay(Kind::Feed, b"frames");
     replay(Kind::Take, b"taking");
     replay(Kind::Find, b"finding");
     replay(Kind::Compare, b"comparing");

@@ -66,7 +66,7 @@ fn cut(at: usize, end: usize) -> usize
 }
 
 fn main() {
-    let mut input = io::buffer();
+    let mut input = io::large_buffer();
     let end = io::read_full(0, &mut input);
     let mut state = Accumulator::new();
     let mut at = 0;

@@ -4,6 +4,7 @@ use mathlib.Core.Path.{_≡_}
 use mathlib.Core.Bool.{Bool, true, false}
 use mathlib.Core.List.{List, [], _∷_, _++_}
 use mathlib.Core.List as lists
+use mathlib.Core.Option.{some}
 use Prim.Native.Nat.{ℕ, _+_, _-_, _*_}
 use lib.ListN.{length, take, drop, replicate}
 use Rattle.wire.specs.declared.Ending.{Ending}
@@ -17,7 +18,7 @@ use Rattle.wire.specs.declared.AskAnswer.the-variants.{Says, Refused as 
 use Rattle.wire.specs.Table.{first, second, goodTrailer, shortChain, check, shapeOf}
 use Rattle.wire.specs.Values.{Value, number, content, Valued, whole, tooShort, unknown, values}
 use Rattle.wire.specs.Reading.{Run}
-use Rattle.wire.specs.Frames.{Fed, padded, feed}
+use Rattle.wire.specs.Frames.{Fed, rule, oldRule, decodeBy, feedBy}
 use Rattle.wire.specs.Answers.{refusalNumber, feedNumber, Numbered, readSays, writeSays, askSays, entriesOf, storeWith, reads, readsStrict, readAnswer, restOf, takes, placeAfter, Form, writes, writeAnswer, outWith, asksWith, areaAfter, zeroed}
 
 -- ---- calls and answers
@@ -28,7 +29,7 @@ pub data Call : Type 0 where
   writing : (table ws pool out : List ℕ) → Call
   valuing : (table ws pool : List ℕ) → Call
   asking : (old new : List ℕ) (bytes : ℕ) → Call
-  feeding : (array : List ℕ) (idx : ℕ) (chunk : List ℕ) → Call
+  feeding feedingBefore : (array : List ℕ) (idx : ℕ) (chunk : List ℕ) → Call
 
 pub data Said : Type 0 where
   read : (number place count : ℕ) (store rest : List ℕ) → Said
@@ -75,7 +76,8 @@ answer (taking kind message place) = tookSaid place (takes kind message place)
 answer (writing table ws pool out) = wroteForm (writes table ws pool (length out)) out
 answer (valuing table ws pool) = valuesBy (check table) table ws pool
 answer (asking old new bytes) = askedSaid (asksWith bytes old new)
-answer (feeding array idx chunk) = fedSaid (feed array idx chunk)
+answer (feeding array idx chunk) = fedSaid (feedBy rule array idx chunk)
+answer (feedingBefore array idx chunk) = fedSaid (feedBy oldRule array idx chunk)
 
 pub record Case : Type 0 where
   pub call : Call
@@ -156,11 +158,14 @@ out = replicate 4 7
 unfoldable pub enough : ℕ
 enough = 2097152
 
--- a state's array
+-- a state's array, and one of document 01's room
 unfoldable pub array : List ℕ
-array = replicate 256 9
+array = replicate 2048 9
 
--- document 01's thirteen
+unfoldable pub oldArray : List ℕ
+oldArray = replicate 256 9
+
+-- document 01's thirteen; the twelfth is of its room, and `long` has it of the new one
 unfoldable pub cases : List Case
 cases =
     case (reading tableT (0xac ∷ 0x02 ∷ 0x05 ∷ 0x03 ∷ []) store) (read 0 4 4 (0 ∷ 0 ∷ 0 ∷ 300 ∷ 0 ∷ 0 ∷ 5 ∷ 0 ∷ 2 ∷ 18446744073709551614 ∷ 0 ∷ 3 ∷ untouched 2) [])
@@ -174,7 +179,7 @@ cases =
     ∷ case (reading (leafTable 11) (0x02 ∷ 0x61 ∷ 0x62 ∷ []) store) (read 0 3 1 (97 ∷ 0 ∷ 0 ∷ untouched 11) [])
     ∷ case (reading (leafTable 11) (0x05 ∷ []) store) (read 6 0 0 store [])
     ∷ case (reading (leafTable 11) (0x00 ∷ []) store) (read 6 0 0 store [])
-    ∷ case (feeding array 250 (1 ∷ 2 ∷ 3 ∷ 4 ∷ 5 ∷ 6 ∷ 7 ∷ 8 ∷ 9 ∷ 10 ∷ [])) (fed 21 [] (7 ∷ 8 ∷ 9 ∷ 10 ∷ []) array 0)
+    ∷ case (feedingBefore oldArray 250 (1 ∷ 2 ∷ 3 ∷ 4 ∷ 5 ∷ 6 ∷ 7 ∷ 8 ∷ 9 ∷ 10 ∷ [])) (fed 21 [] (7 ∷ 8 ∷ 9 ∷ 10 ∷ []) oldArray 0)
     ∷ case (feeding array 0 (0x03 ∷ 0x11 ∷ 0x22 ∷ 0x02 ∷ 0x33 ∷ 0x00 ∷ [])) (fed 23 (0x11 ∷ 0x22 ∷ 0x00 ∷ 0x33 ∷ []) [] array 0)
     ∷ []
 
@@ -212,11 +217,11 @@ ours =
     ∷ case (writing tableT (0 ∷ 0 ∷ 0 ∷ 1 ∷ 0 ∷ 0 ∷ []) [] out) (wrote 11 2 out)
     ∷ case (writing (leafTable 8) (34359738368 ∷ 0 ∷ 0 ∷ []) [] out) (wrote 12 0 out)
     ∷ case (writing (leafTable 12) (3 ∷ 0 ∷ 0 ∷ []) (0x61 ∷ 0x62 ∷ []) out) (wrote 11 0 out)
-    ∷ case (feeding array 257 (0 ∷ [])) (fed 24 [] (0 ∷ []) array 257)
+    ∷ case (feeding array 2049 (0 ∷ [])) (fed 24 [] (0 ∷ []) array 2049)
     ∷ case (feeding array 0 (0 ∷ [])) (fed 23 [] [] array 0)
     ∷ case (feeding array 0 (3 ∷ 1 ∷ 0 ∷ 5 ∷ [])) (fed 22 [] (5 ∷ []) array 0)
-    ∷ case (feeding array 254 (1 ∷ 1 ∷ [])) (fed 20 [] [] (replicate 254 9 ++ (1 ∷ 1 ∷ [])) 256)
-    ∷ case (feeding array 255 (1 ∷ 0 ∷ 5 ∷ [])) (fed 21 [] (5 ∷ []) array 0)
+    ∷ case (feeding array 2046 (1 ∷ 1 ∷ [])) (fed 20 [] [] (replicate 2046 9 ++ (1 ∷ 1 ∷ [])) 2048)
+    ∷ case (feeding array 2047 (1 ∷ 0 ∷ 5 ∷ [])) (fed 21 [] (5 ∷ []) array 0)
     ∷ case (taking 14 [] 5) (took 2 0 0 0 0 5)
     ∷ case (taking 6 (0x05 ∷ 0x80 ∷ []) 1) (took 3 1 0 0 0 1)
     ∷ case (taking 6 (0x05 ∷ 0x81 ∷ 0x01 ∷ []) 1) (took 0 3 129 0 1 3)
@@ -261,6 +266,43 @@ forms =
     ∷ case (asking tableT atEnd 2097151) (asked 25 0 false)
     ∷ case (asking [] [] 2097151) (asked 25 0 false)
     ∷ []
+
+-- a full group's bytes
+unfoldable pub run : List ℕ
+run = replicate 254 7
+
+-- an array of groups of no bytes
+unfoldable pub ones : List ℕ
+ones = replicate 2048 1
+
+-- T-03: no zero behind a group of code FF, whether another follows or none, and one behind each other group but the last;
+-- frames beyond document 01's room, the new room filled, and a byte more
+unfoldable pub long : List Case
+long =
+    case (feeding array 0 (0xff ∷ (run ++ (0 ∷ [])))) (fed 23 run [] array 0)
+    ∷ case (feeding array 0 (0xff ∷ (run ++ (1 ∷ 0 ∷ [])))) (fed 23 run [] array 0)
+    ∷ case (feeding array 0 (0xff ∷ (run ++ (1 ∷ 1 ∷ 0 ∷ [])))) (fed 23 (run ++ (0 ∷ [])) [] array 0)
+    ∷ case (feeding array 0 (0xff ∷ (run ++ (2 ∷ 8 ∷ 0 ∷ 5 ∷ [])))) (fed 23 (run ++ (8 ∷ [])) (5 ∷ []) array 0)
+    ∷ case (feeding array 0 (0xff ∷ (run ++ (0xff ∷ (run ++ (2 ∷ 8 ∷ 1 ∷ 0 ∷ [])))))) (fed 23 (run ++ (run ++ (8 ∷ 0 ∷ []))) [] array 0)
+    ∷ case (feeding array 0 (0xfe ∷ (drop 1 run ++ (2 ∷ 8 ∷ 0 ∷ [])))) (fed 23 (drop 1 run ++ (0 ∷ 8 ∷ [])) [] array 0)
+    ∷ case (feeding array 0 (2 ∷ 8 ∷ 0xff ∷ (run ++ (2 ∷ 8 ∷ 0 ∷ [])))) (fed 23 (8 ∷ 0 ∷ (run ++ (8 ∷ []))) [] array 0)
+    ∷ case (feeding array 0 (0xff ∷ (drop 1 run ++ (0 ∷ [])))) (fed 22 [] [] array 0)
+    ∷ case (feeding array 250 (1 ∷ 2 ∷ 3 ∷ 4 ∷ 5 ∷ 6 ∷ 7 ∷ 8 ∷ 9 ∷ 10 ∷ [])) (fed 20 [] [] (replicate 250 9 ++ (1 ∷ 2 ∷ 3 ∷ 4 ∷ 5 ∷ 6 ∷ 7 ∷ 8 ∷ 9 ∷ 10 ∷ replicate 1788 9)) 260)
+    ∷ case (feeding array 2042 (1 ∷ 2 ∷ 3 ∷ 4 ∷ 5 ∷ 6 ∷ 7 ∷ 8 ∷ 9 ∷ 10 ∷ [])) (fed 21 [] (7 ∷ 8 ∷ 9 ∷ 10 ∷ []) array 0)
+    ∷ case (feeding ones 2047 (0 ∷ 5 ∷ [])) (fed 23 (replicate 2046 0) (5 ∷ []) ones 0)
+    ∷ case (feeding ones 2048 (0 ∷ 5 ∷ [])) (fed 21 [] (5 ∷ []) ones 0)
+    ∷ case (feeding array 2048 []) (fed 20 [] [] array 2048)
+    ∷ case (feedingBefore oldArray 0 (0xff ∷ (run ++ (0 ∷ [])))) (fed 23 run [] oldArray 0)
+    ∷ case (feedingBefore oldArray 0 (0xff ∷ (run ++ (1 ∷ 0 ∷ [])))) (fed 21 [] [] oldArray 0)
+    ∷ case (feedingBefore oldArray 257 (0 ∷ [])) (fed 24 [] (0 ∷ []) oldArray 257)
+    ∷ case (feedingBefore oldArray 254 (1 ∷ 1 ∷ [])) (fed 20 [] [] (replicate 254 9 ++ (1 ∷ 1 ∷ [])) 256)
+    ∷ []
+
+-- what T-03 mends: document 01's rule gives a long frame's message a zero that was not in it
+abbrev pub ExtraZero : Type 0
+ExtraZero =
+    (decodeBy oldRule (0xff ∷ (run ++ (2 ∷ 8 ∷ []))) ∷ decodeBy rule (0xff ∷ (run ++ (2 ∷ 8 ∷ []))) ∷ [])
+    ≡ (some (run ++ (0 ∷ 8 ∷ [])) ∷ some (run ++ (8 ∷ [])) ∷ [])
 
 -- ---- limits
 

@@ -5,33 +5,57 @@ use mathlib.Core.List.{List, [], _∷_, _++_}
 use mathlib.Core.Option.{Option, none, some, Option·map}
 use Prim.Native.Nat.{ℕ, zero, suc, _+_, _-_}
 use lib.ListN.{length, take, drop, replicate}
-use lib.Dec.{leb}
+use lib.Dec.{leb, eqb}
 use Rattle.wire.specs.declared.FeedAnswer.{FeedAnswer}
 use Rattle.wire.specs.declared.FeedAnswer.the-variants.{Consumed, OverFull, BadFrame, Frame, BadState}
 use Rattle.wire.specs.Tests.{pick}
 
--- ---- a frame
+-- ---- the rule
 
--- how many zeros of the message stand behind a group of a code, where another group follows
-unfoldable pub gapAfter : ℕ → ℕ
-gapAfter code = 1
-
--- so many bytes are left of a group, and other groups may follow; `gap` zeros of the message stand in front of the next
-unfoldable pub groups : ℕ → ℕ → List ℕ → Option (List ℕ)
-groups gap zero [] = some []
-groups gap (suc left) [] = none
-groups gap left (zero ∷ s) = none
-groups gap zero (suc left ∷ s) = Option·map (λ (m : List ℕ). replicate gap 0 ++ m) (groups (gapAfter (suc left)) left s)
-groups gap (suc left) (suc b ∷ s) = Option·map (λ (m : List ℕ). suc b ∷ m) (groups gap left s)
-
--- the message of a frame, which is given without its closing zero
-unfoldable pub decode : List ℕ → Option (List ℕ)
-decode s = groups 0 0 s
-
--- ---- a chunk
+-- how many bytes a frame may have, and how many zeros of the message stand behind a group of a code, where another group follows
+pub record Rule : Type 0 where
+  pub room : ℕ
+  pub gapAfter : ℕ → ℕ
 
 unfoldable pub room : ℕ
-room = 256
+room = 2048
+
+-- a group with code FF is never followed by a zero
+unfoldable pub gapAfter : ℕ → ℕ
+gapAfter code = pick (eqb code 0xff) 0 1
+
+abbrev pub rule : Rule
+rule = record { room = room; gapAfter = gapAfter }
+
+-- document 01's rule, which stood before T-03
+unfoldable pub oldRoom : ℕ
+oldRoom = 256
+
+unfoldable pub oldGapAfter : ℕ → ℕ
+oldGapAfter code = 1
+
+abbrev pub oldRule : Rule
+oldRule = record { room = oldRoom; gapAfter = oldGapAfter }
+
+-- ---- a frame, by either rule
+
+module _ (r : Rule) where
+  -- so many bytes are left of a group, and other groups may follow; `gap` zeros of the message stand in front of the next
+  unfoldable pub groupsBy : ℕ → ℕ → List ℕ → Option (List ℕ)
+  groupsBy gap zero [] = some []
+  groupsBy gap (suc left) [] = none
+  groupsBy gap left (zero ∷ s) = none
+  groupsBy gap zero (suc left ∷ s) = Option·map (λ (m : List ℕ). replicate gap 0 ++ m) (groupsBy (r .gapAfter (suc left)) left s)
+  groupsBy gap (suc left) (suc b ∷ s) = Option·map (λ (m : List ℕ). suc b ∷ m) (groupsBy gap left s)
+
+  -- the message of a frame, which is given without its closing zero
+  unfoldable pub decodeBy : List ℕ → Option (List ℕ)
+  decodeBy s = groupsBy 0 0 s
+
+abbrev pub decode : List ℕ → Option (List ℕ)
+decode s = decodeBy rule s
+
+-- ---- what a feed answers
 
 -- how many bytes stand in front of the first zero, if there is one
 unfoldable pub toZero : List ℕ → Option ℕ
@@ -51,32 +75,36 @@ pub record Fed : Type 0 where
 unfoldable pub noMessage : FeedAnswer → List ℕ → List ℕ → ℕ → Fed
 noMessage a rest array idx = record { answer = a; message = []; rest = rest; array = array; idx = idx }
 
--- a chunk with no zero in it
-unfoldable pub feedOn : List ℕ → ℕ → List ℕ → Fed
-feedOn array idx chunk =
-    pick (leb (idx + length chunk) room)
-    (noMessage Consumed [] (take idx array ++ (chunk ++ drop (idx + length chunk) array)) (idx + length chunk))
-    (noMessage OverFull (drop (room - idx) chunk) array 0)
-
 -- the end of a frame, whose message was decoded or not
 unfoldable pub framed : Option (List ℕ) → List ℕ → List ℕ → Fed
 framed (some m) rest array = record { answer = Frame; message = m; rest = rest; array = array; idx = 0 }
 framed none rest array = noMessage BadFrame rest array 0
 
--- a chunk whose first zero is at n
-unfoldable pub feedEnd : List ℕ → ℕ → List ℕ → ℕ → Fed
-feedEnd array idx chunk n =
-    pick (leb (idx + (n + 1)) room)
-    (framed (decode (take idx array ++ take n chunk)) (drop (n + 1) chunk) array)
-    (noMessage OverFull (drop (n + 1) chunk) array 0)
+-- ---- a chunk, by either rule
 
-unfoldable pub feedFit : List ℕ → ℕ → List ℕ → Option ℕ → Fed
-feedFit array idx chunk none = feedOn array idx chunk
-feedFit array idx chunk (some n) = feedEnd array idx chunk n
+module _ (r : Rule) where
+  -- a chunk with no zero in it
+  unfoldable pub feedOn : List ℕ → ℕ → List ℕ → Fed
+  feedOn array idx chunk =
+      pick (leb (idx + length chunk) (r .room))
+      (noMessage Consumed [] (take idx array ++ (chunk ++ drop (idx + length chunk) array)) (idx + length chunk))
+      (noMessage OverFull (drop (r .room - idx) chunk) array 0)
 
-unfoldable pub feed : List ℕ → ℕ → List ℕ → Fed
-feed array idx chunk =
-    pick (leb idx room) (feedFit array idx chunk (toZero chunk)) (noMessage BadState chunk array idx)
+  -- a chunk whose first zero is at n
+  unfoldable pub feedEnd : List ℕ → ℕ → List ℕ → ℕ → Fed
+  feedEnd array idx chunk n =
+      pick (leb (idx + (n + 1)) (r .room))
+      (framed (decodeBy r (take idx array ++ take n chunk)) (drop (n + 1) chunk) array)
+      (noMessage OverFull (drop (n + 1) chunk) array 0)
+
+  unfoldable pub feedFit : List ℕ → ℕ → List ℕ → Option ℕ → Fed
+  feedFit array idx chunk none = feedOn array idx chunk
+  feedFit array idx chunk (some n) = feedEnd array idx chunk n
+
+  -- document 01's step table
+  unfoldable pub feedBy : List ℕ → ℕ → List ℕ → Fed
+  feedBy array idx chunk =
+      pick (leb idx (r .room)) (feedFit array idx chunk (toZero chunk)) (noMessage BadState chunk array idx)
 
 -- the array that comes with an answer: the message with zeros behind it
 unfoldable pub padded : List ℕ → List ℕ

@@ -3,7 +3,8 @@
 use Prim.Native.Nat.{_-_}
 use native.Mathlib.Omega.{arith}
 use lib.ListN.{length}
-use Rattle.accumulator.proofs.Search.{Seeks, seeks-none, seeks-more, seeks-at, seeks-end}
+use Rattle.accumulator.specs.Parts.{Seeks}
+use Rattle.accumulator.proofs.Search.{seeks-more, seeks-at, seeks-end}
 use Rattle.accumulator.proofs.first_zero.Statement.{statement}
 use Rattle.accumulator.proofs.first_zero.Tie as tie
 
@@ -13,8 +14,11 @@ Inv-loop s i₀ i = Seeks s i
 abbrev μ-loop : tie.MeasureT-loop
 μ-loop s i₀ i = length s - i
 
+near-zero-requires : tie.Need-near-zero-requires Inv-loop μ-loop
+near-zero-requires c κs = tt
+
 loop-holds : tie.Need-loop-holds Inv-loop μ-loop
-loop-holds c = seeks-none _
+loop-holds c = c .near-zero .ensures
 
 shared-slice-read-if1 : tie.Need-shared-slice-read-if1 Inv-loop μ-loop
 shared-slice-read-if1 c = omega arith
@@ -36,4 +40,4 @@ returns-2 c = seeks-end (c .before .loop .inv) (c .loop-test .left)
 
 pub first-zero-spec : {M : Type 1} → statement M
 first-zero-spec =
-    tie.close (tie.spec Inv-loop μ-loop loop-holds shared-slice-read-if1 returns add-i loop-less loop-again returns-2)
+    tie.close (tie.spec Inv-loop μ-loop near-zero-requires loop-holds shared-slice-read-if1 returns add-i loop-less loop-again returns-2)

@@ -1,13 +1,15 @@
--- `accumulator::gap_after` meets its contract: the definition computes to it.
+-- `accumulator::gap_after` meets its contract: the code is tested as the definition tests it.
 -- Assumes nothing.
-use Rattle.wire.specs.Frames.{gapAfter}
-use borrow.Author.Needs.{needs}
+use native.Mathlib.Omega.{arith}
+use Rattle.accumulator.proofs.Decoding.{gap-full, gap-other}
 use Rattle.accumulator.proofs.gap_after.Statement.{statement}
 use Rattle.accumulator.proofs.gap_after.Tie as tie
 
 returns : tie.Need-returns
-unfolding gapAfter
-returns c = search needs
+returns c = gap-full _ (omega arith)
+
+returns-2 : tie.Need-returns-2
+returns-2 c = gap-other _ (λ is. omega arith)
 
 pub gap-after-spec : {M : Type 1} → statement M
-gap-after-spec = tie.close (tie.spec returns)
+gap-after-spec = tie.close (tie.spec returns returns-2)

@@ -13,8 +13,8 @@ Inv-loop input end state₀ at₀ t7 t8 state at = (state .idx ≤ room) × (end
 abbrev μ-loop : tie.MeasureT-loop
 μ-loop input end state₀ at₀ t7 t8 state at = end - at
 
-buffer-requires : tie.Need-buffer-requires Inv-loop μ-loop
-buffer-requires c κs = search needs
+large-buffer-requires : tie.Need-large-buffer-requires Inv-loop μ-loop
+large-buffer-requires c κs = search needs
 
 slice-aggregate-read-full : tie.Need-slice-aggregate-read-full Inv-loop μ-loop
 slice-aggregate-read-full c = search needs
@@ -73,7 +73,7 @@ main-spec =
     (tie.spec
     Inv-loop
     μ-loop
-    buffer-requires
+    large-buffer-requires
     slice-aggregate-read-full
     read-full-requires
     new-requires

@@ -4,6 +4,7 @@ use crate::forms::{odd_chars, odd_texts, odd_varints};
 use crate::tables::{leaf, rooted, with, LEAVES};
 use crate::{Gen, Go};
 use oracle_driver::append::AREA;
+use oracle_driver::feed::ROOM;
 use oracle_driver::model::{shortest, W16, W32, W64};
 use oracle_driver::table::*;
 use oracle_driver::WORDS;
@@ -480,9 +481,10 @@ impl Gen {
         Ok(())
     }
 
+    /// At the edges of 01's room, which T-03 raised; the stream of frames has the new room's.
     fn feeds_at_the_edge(&mut self) -> Go {
-        let zeros = [0; 256];
-        let ones = [1; 256];
+        let zeros = [0; ROOM];
+        let ones = [1; ROOM];
         for idx in [0u64, 1, 2, 250, 253, 254, 255, 256, 257, 300, u64::MAX] {
             for array in [zeros, ones, std::array::from_fn(|i| i as u8)] {
                 for chunk in [

@@ -3,6 +3,7 @@
 use crate::forms::Odd;
 use crate::tables::{fewest, leaf, LEAVES};
 use crate::{Enough, Gen, Go};
+use oracle_driver::feed::ROOM;
 use oracle_driver::model::{self, encode_char, shortest};
 use oracle_driver::table::*;
 use oracle_driver::{write, Entry, WORDS};
@@ -460,7 +461,7 @@ impl Gen {
     }
 
     fn feeds(&mut self) -> Go {
-        // A frame of a random message, as 01 decodes it, maybe spoilt, cut in two at random:
+        // A frame of a random message within 01's room, maybe spoilt, cut in two at random:
         // the first part in the state, the second in the chunk.
         let len = *self.rng.pick(&[0, 1, 2, 5, 20, 120, 250, 253, 254, 255, 256]);
         let mut frame = vec![];
@@ -476,7 +477,8 @@ impl Gen {
         }
         frame.push(0);
         let cut = self.rng.below(frame.len().min(257));
-        let mut array: [u8; 256] = std::array::from_fn(|_| self.rng.byte());
+        let mut array = [0; ROOM];
+        array[..256].fill_with(|| self.rng.byte());
         array[..cut].copy_from_slice(&frame[..cut]);
         let mut chunk = frame[cut..].to_vec();
         let tail = self.rng.below(6);

@@ -76,13 +76,25 @@ uint64_t reystavem_append(const uint8_t *old_table, size_t old_len,
                           uint8_t *area, size_t area_len,
                           uint64_t *place, uint64_t *which, uint64_t *yes);
 
-/* Feeds a chunk to an accumulator: its array of 256 bytes and how much of that is filled. The message
- * (256 bytes too) is written whole: a frame's message of *len bytes, and zeros behind it. *rest_from:
- * where the chunk's rest begins. A slice of another length: 24, nothing changed. */
+/* How many bytes a frame may have, its closing zero among them. */
+#define REYSTAVEM_ROOM 2048
+
+/* Feeds a chunk to an accumulator: its array of REYSTAVEM_ROOM bytes and how much of that is filled.
+ * The message (as many bytes) is written whole: a frame's message of *len bytes, and zeros behind it.
+ * *rest_from: where the chunk's rest begins. *idx over REYSTAVEM_ROOM: 24, array and *idx as before.
+ * A slice of another length: 24, the message as before too. */
 uint64_t reystavem_feed(uint8_t *array, size_t array_len,
                         const uint8_t *chunk, size_t chunk_len,
                         uint8_t *message, size_t message_len,
                         uint64_t *idx, uint64_t *len, uint64_t *rest_from);
+
+/* Writes a message of any length as a COBS frame with its closing zero, which is its only zero; the empty
+ * message is 01 00, and behind a last group of 254 bytes no empty one follows. A message of 2038 bytes or
+ * fewer has a frame of at most REYSTAVEM_ROOM, and such a frame, fed in any chunks to an empty
+ * accumulator, gives the message again. *place: bytes written, or 0 on a refusal. 12 exactly if the frame
+ * is longer than the output, which is then unchanged; on 0 only the bytes written changed. */
+uint64_t reystavem_frame(const uint8_t *message, size_t message_len,
+                         uint8_t *out, size_t out_len, uint64_t *place);
 
 /* Takes one item of kind 0 to 13 or 20 to 31 at *place: moved behind the item on 0, kept on a refusal.
  * *first, *second and *at: the item's entry, its value in two words and the place where it stands; each
@@ -130,7 +142,8 @@ uint64_t reystavem_batch_write(const uint8_t *table, size_t table_len,
 
 /* Whether a batch is good: it reads fully from its first byte to the rows, message after message, and
  * the rows are one for each message, in order, with its own key and offset. Refusals: of the table; 17,
- * but 18 first if the batch is shorter than a trailer; 18. *place: the table's first bad node, else 0. */
+ * but 18 first if the batch is shorter than a trailer; 18. *place: the table's first bad node, else 0.
+ * From 32768 bytes of messages on it wants 256 KiB of stack; so does reystavem_batch_compact. */
 uint64_t reystavem_batch_check(const uint8_t *table, size_t table_len,
                                const uint8_t *batch, size_t batch_len, uint64_t *place);
 

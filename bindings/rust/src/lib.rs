@@ -69,6 +69,13 @@ mod ffi {
             len: *mut u64,
             rest_from: *mut u64,
         ) -> u64;
+        pub fn reystavem_frame(
+            message: *const u8,
+            message_len: usize,
+            out: *mut u8,
+            out_len: usize,
+            place: *mut u64,
+        ) -> u64;
         pub fn reystavem_take(
             kind: u64,
             message: *const u8,
@@ -398,7 +405,7 @@ pub fn appends(old: &[u8], new: &[u8], area: &mut [u8]) -> Result<bool, (Option<
 }
 
 /// How many bytes a frame may have, its closing zero among them.
-pub const ROOM: usize = 256;
+pub const ROOM: usize = 2_048;
 
 /// Collects chunks of a stream until a frame's closing zero.
 #[derive(Clone, Copy, Debug, PartialEq, Eq)]
@@ -428,6 +435,16 @@ impl Default for Accumulator {
     }
 }
 
+/// What a feed in lent memory answers: as `Fed`, but for the message, which stands in the memory.
+#[derive(Clone, Copy, Debug, PartialEq, Eq)]
+pub enum Step {
+    Consumed,
+    OverFull,
+    BadFrame,
+    Frame { len: usize },
+    BadState,
+}
+
 impl Accumulator {
     pub fn new() -> Self {
         Accumulator { array: [0; ROOM], idx: 0 }
@@ -436,6 +453,19 @@ impl Accumulator {
     /// Feeds a chunk: the answer, and the part of the chunk that is still to be fed.
     pub fn feed<'c>(&mut self, chunk: &'c [u8]) -> (Fed, &'c [u8]) {
         let mut message = [0; ROOM];
+        let (step, rest) = self.feed_lent(chunk, &mut message);
+        let fed = match step {
+            Step::Consumed => Fed::Consumed,
+            Step::OverFull => Fed::OverFull,
+            Step::BadFrame => Fed::BadFrame,
+            Step::Frame { len } => Fed::Frame { message, len },
+            Step::BadState => Fed::BadState,
+        };
+        (fed, rest)
+    }
+
+    /// The same, and the message is written to memory that is lent: a frame's message, and zeros behind it, or zeros only.
+    pub fn feed_lent<'c>(&mut self, chunk: &'c [u8], message: &mut [u8; ROOM]) -> (Step, &'c [u8]) {
         let (mut len, mut from) = (0, 0);
         // SAFETY: each slice is lent with its own length; array and message are borrowed for us alone.
         let number = unsafe {
@@ -451,17 +481,35 @@ impl Accumulator {
                 &mut from,
             )
         };
-        let fed = match number {
-            20 => Fed::Consumed,
-            21 => Fed::OverFull,
-            22 => Fed::BadFrame,
-            23 => Fed::Frame {
-                message,
-                len: len as usize,
-            },
-            _ => Fed::BadState,
+        let step = match number {
+            20 => Step::Consumed,
+            21 => Step::OverFull,
+            22 => Step::BadFrame,
+            23 => Step::Frame { len: len as usize },
+            _ => Step::BadState,
         };
-        (fed, &chunk[from as usize..])
+        (step, &chunk[from as usize..])
+    }
+}
+
+/// Writes a message as a COBS frame with its closing zero: how many bytes were written. Fed in any chunks to an empty
+/// [`Accumulator`], a frame of at most [`ROOM`] bytes gives the message again; a message of 2,038 bytes or fewer always has
+/// such a frame. Refused with 12, exactly if the frame is longer than the output, which is then unchanged.
+///
+/// ```
+/// let mut out = [0; 8];
+/// let len = reystavem::frame(&[0x11, 0x22, 0x00, 0x33], &mut out).unwrap();
+/// assert_eq!(out[..len], [0x03, 0x11, 0x22, 0x02, 0x33, 0x00]);
+/// ```
+#[inline]
+pub fn frame(message: &[u8], out: &mut [u8]) -> Result<usize, Refused> {
+    let mut place = 0;
+    // SAFETY: each slice is lent with its own length; `out` is borrowed for us alone.
+    let number =
+        unsafe { ffi::reystavem_frame(message.as_ptr(), message.len(), out.as_mut_ptr(), out.len(), &mut place) };
+    match number {
+        0 => Ok(place as usize),
+        _ => Err(refused(number, place)),
     }
 }
 
@@ -654,6 +702,8 @@ pub fn batch_write(
 
 /// Whether a batch is good as a whole: it reads from its first byte to its rows, message after message, and its rows and
 /// trailer are those of these messages.
+///
+/// From 32,768 bytes of messages on it wants 256 KiB of stack; so does [`batch_compact`].
 pub fn batch_check(table: &[u8], batch: &[u8]) -> Result<(), Refused> {
     let mut place = 0;
     // SAFETY: each slice is lent with its own length, and `place` is ours.

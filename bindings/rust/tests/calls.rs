@@ -190,14 +190,70 @@ fn frames_in_chunks() {
     let (fed, rest) = accumulator.feed(&[0x22, 0x02, 0x33, 0x00, 0x05]);
     let Fed::Frame { message, len } = fed else { panic!("{fed:?}") };
     assert_eq!(message[..len], [0x11, 0x22, 0x00, 0x33]);
-    assert_eq!(message[len..], [0; 252]);
+    assert_eq!(message[len..], [0; ROOM - 4]);
     assert_eq!(rest, [0x05]);
     assert_eq!(accumulator.idx, 0);
-    let mut made_up = Accumulator { array: [9; 256], idx: 257 };
+    let mut made_up = Accumulator { array: [9; ROOM], idx: 2_049 };
     assert_eq!(made_up.feed(&[0]), (Fed::BadState, &[0][..]));
-    let mut nearly = Accumulator { array: [9; 256], idx: 250 };
+    let mut nearly = Accumulator { array: [9; ROOM], idx: 2_042 };
     let chunk = [1, 2, 3, 4, 5, 6, 7, 8, 9, 10];
     assert_eq!(nearly.feed(&chunk), (Fed::OverFull, &[7, 8, 9, 10][..]));
+}
+
+/// A group of code FF is never followed by a zero, and any other but the last is.
+#[test]
+fn long_frames() {
+    let full = [&[0xFF][..], &[7; 254]].concat();
+    let nearly = [&[0xFE][..], &[7; 253]].concat();
+    for (groups, right) in [
+        (vec![&full[..]], vec![7; 254]),
+        (vec![&full[..], &[1]], vec![7; 254]),
+        (vec![&full[..], &[1, 1]], [vec![7; 254], vec![0]].concat()),
+        (vec![&full[..], &[2, 8]], [vec![7; 254], vec![8]].concat()),
+        (vec![&full[..], &full], vec![7; 508]),
+        (vec![&full[..], &full, &[2, 8, 1]], [vec![7; 508], vec![8, 0]].concat()),
+        (vec![&nearly[..], &[2, 8]], [vec![7; 253], vec![0, 8]].concat()),
+    ] {
+        let frame = [groups.concat(), vec![0]].concat();
+        for cut in [0, 1, 200, 255, frame.len() - 1] {
+            let mut accumulator = Accumulator::new();
+            assert_eq!(accumulator.feed(&frame[..cut]), (Fed::Consumed, &[][..]));
+            let (Fed::Frame { message, len }, []) = accumulator.feed(&frame[cut..]) else { panic!("{frame:x?}") };
+            assert_eq!(message[..len], right);
+            let (mut lent, mut memory) = (Accumulator::new(), [9; ROOM]);
+            assert_eq!(lent.feed_lent(&frame[..cut], &mut memory), (Step::Consumed, &[][..]));
+            assert_eq!(memory, [0; ROOM]);
+            assert_eq!(lent.feed_lent(&frame[cut..], &mut memory), (Step::Frame { len }, &[][..]));
+            assert_eq!((memory, lent), (message, accumulator));
+        }
+    }
+}
+
+/// What is sent comes back, however it is cut; and an output that is a byte too short is left as it was.
+#[test]
+fn sent_frames() {
+    let full = [7; 254];
+    for (message, right) in [
+        (vec![], vec![1, 0]),
+        (vec![0], vec![1, 1, 0]),
+        (vec![8, 0], vec![2, 8, 1, 0]),
+        (full.to_vec(), [&[0xFF], &full[..], &[0]].concat()),
+        ([&full[..], &[0]].concat(), [&[0xFF], &full[..], &[1, 1, 0]].concat()),
+        ([&full[..], &[8]].concat(), [&[0xFF], &full[..], &[2, 8, 0]].concat()),
+    ] {
+        let mut out = vec![9; right.len() + 1];
+        assert_eq!(frame(&message, &mut out), Ok(right.len()));
+        assert_eq!(out, [&right[..], &[9]].concat());
+        let mut short = vec![9; right.len() - 1];
+        assert_eq!(frame(&message, &mut short), Err(Refused { why: Why::Full, place: 0 }));
+        assert_eq!(short, vec![9; right.len() - 1]);
+        for cut in 0..right.len() {
+            let mut accumulator = Accumulator::new();
+            assert_eq!(accumulator.feed(&right[..cut]), (Fed::Consumed, &[][..]));
+            let (Fed::Frame { message: got, len }, [9]) = accumulator.feed(&out[cut..]) else { panic!("{right:x?}") };
+            assert_eq!(got[..len], message);
+        }
+    }
 }
 
 #[test]

@@ -14,6 +14,7 @@ use wire::WriteAnswer;
 ghost use lib.ListN.{length};
 ghost use Rattle.wire.specs.Table.{check};
 ghost use Rattle.wire.specs.Answers.{checkSays, reads, readsStrict, takes, writes, asks};
+ghost use Rattle.wire.specs.Sending.{sends};
 ghost use Rattle.accumulator.specs.Feeding.{feedLent};
 ghost use Rattle.desk.specs.Path.{finds};
 ghost use Rattle.desk.specs.Differ.{compares};
@@ -169,6 +170,23 @@ pub extern "C" fn reystavem_feed(
     *rest_from = step.used as u64;
     let answer = step.answer;
     numbers::feed(answer)
+}
+
+#[no_mangle]
+pub extern "C" fn reystavem_frame(message: &[u8], out: &mut [u8], place: &mut u64) -> u64
+    ensures { λ r. ⌜ Wrote (sends (now (message .entry)) (length (now (out .entry)))) (now (out .entry)) r (now (place .exit)) (now (out .exit)) ⌝ }
+{
+    let got = framer::frame(message, out);
+    match got {
+        WriteAnswer::Done { place: end } => {
+            *place = end as u64;
+            0
+        }
+        WriteAnswer::Refused { why, place: at } => {
+            *place = at as u64;
+            numbers::refusal(why)
+        }
+    }
 }
 
 #[no_mangle]

@@ -1,4 +1,4 @@
-// A recorded stream, fed to the accumulator chunk by chunk.
+// A recorded stream, fed to the accumulator chunk by chunk; and a message as a frame, to be sent.
 use crate::files;
 use accumulator::Accumulator;
 use accumulator::Fed;
@@ -7,6 +7,7 @@ use say::say;
 use say::say_bytes;
 use say::say_with;
 use wire::FeedAnswer;
+use wire::WriteAnswer;
 ghost use Prim.Native.Nat.{_+_, _^_, _≤_, _<_};
 ghost use lib.ListN.{length};
 ghost use Rattle.wire.specs.Frames.{room};
@@ -85,5 +86,30 @@ pub fn run() {
     let len = loaded.len;
     if whole {
         show(&room[..len]);
+    }
+}
+
+// Puts a message's frame into a room of its own, and that into the file OUT only if it fits there.
+fn save_frame(message: &[u8]) {
+    let mut out = files::large_room();
+    match framer::frame(message, &mut out) {
+        WriteAnswer::Refused { why: _, place: _ } => say_with(
+            b"refused: 12, the frame is larger than the room of # bytes\n",
+            files::LARGE as u64,
+        ),
+        WriteAnswer::Done { place } => {
+            files::save(3, front(&out, place));
+        }
+    }
+}
+
+// shelf frame MESSAGE OUT
+pub fn send() {
+    let mut room = files::large_room();
+    let loaded = files::load(2, &mut room);
+    let whole = loaded.whole;
+    let len = loaded.len;
+    if whole {
+        save_frame(&room[..len]);
     }
 }

@@ -1,4 +1,4 @@
-// What a planner runs: shelf table, read, bytes, read-strict, find, compare, changes, append, frames, write and batch, each over files. Without such words it says how to use it.
+// What a planner runs: shelf table, read, bytes, read-strict, find, compare, changes, append, frames, frame, write and batch, each over files. Without such words it says how to use it.
 mod batching;
 mod comparing;
 mod decimal;
@@ -19,6 +19,7 @@ enum Verb {
     Changes,
     Append,
     Frames,
+    Frame,
     Write,
     Batch,
     Unknown,
@@ -35,6 +36,7 @@ fn say_usage() {
         shelf changes TABLE ONE OTHER       the same in words: each such item with its path, in both messages\n\
         shelf append OLD NEW                does the new table only append to the old one?\n\
         shelf frames FILE                   the messages in a recorded stream of frames\n\
+        shelf frame MESSAGE OUT             writes a message as a frame, to be sent\n\
         shelf write TABLE VALUES POOL OUT   writes the message of a value list\n\
         shelf batch write TABLE MESSAGES STORE_FIELD PRODUCT_FIELD OUT   writes a night's batch of messages that stand end to end\n\
         shelf batch check TABLE BATCH       is the batch good? every message and every row\n\
@@ -71,6 +73,9 @@ fn verb_of(word: &[u8]) -> Verb {
     if check::same(word, b"frames") {
         return Verb::Frames;
     }
+    if check::same(word, b"frame") {
+        return Verb::Frame;
+    }
     if check::same(word, b"write") {
         return Verb::Write;
     }
@@ -84,7 +89,7 @@ fn verb_of(word: &[u8]) -> Verb {
 fn fits(verb: Verb, count: usize) -> bool {
     match verb {
         Verb::Table | Verb::Frames => count == 3,
-        Verb::Read | Verb::Bytes | Verb::ReadStrict | Verb::Append => count == 4,
+        Verb::Read | Verb::Bytes | Verb::ReadStrict | Verb::Append | Verb::Frame => count == 4,
         Verb::Find => 4 <= count,
         Verb::Compare | Verb::Changes => count == 5,
         Verb::Write => count == 6,
@@ -143,6 +148,7 @@ fn run_on_table(verb: Verb) {
 fn run(verb: Verb) {
     match verb {
         Verb::Frames => frames::run(),
+        Verb::Frame => frames::send(),
         Verb::Batch => batching::run(),
         Verb::Unknown => say_usage(),
         _ => run_on_table(verb),

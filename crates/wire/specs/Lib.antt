@@ -11,4 +11,6 @@ pub mod Writing
 pub mod Append
 pub mod Frames
 pub mod Answers
+pub mod Sending
 pub mod Cases
+pub mod SendingCases

@@ -2,7 +2,8 @@
 
 use crate::append::{appends, Which};
 use crate::compare::{self, Of, Pair};
-use crate::feed::{feed, ROOM};
+use crate::feed::{self, feed, ROOM};
+use crate::send::send;
 use crate::{batch, find, model, read, strict, write, Entry, ReadAnswer, Refusal};
 use core::fmt::Write;
 use core::ops::Range;
@@ -127,10 +128,16 @@ pub fn answer(line: &str, from_document: bool) -> Result<String, String> {
             }
         }),
         ["F", idx, array, chunk] => {
-            let array: [u8; ROOM] = unhex(array)?.try_into().map_err(|_| "array is not 256 bytes")?;
+            let array: [u8; ROOM] = unhex(array)?.try_into().map_err(|_| "array is not of the room's length")?;
             let chunk = unhex(chunk)?;
             let a = feed(number(idx)?, &array, &chunk);
             Ok(format!("{} {:x} | {} | {} | {}", a.no, a.idx, hex(a.rest), hex(&a.message), hex(&a.array)))
+        }
+        ["E", message, out_len] => {
+            let (message, out_len) = (unhex(message)?, number(out_len)? as usize);
+            let by_runs = feed::frame(&message);
+            let by_runs = if by_runs.len() <= out_len { Ok(by_runs) } else { Err(Refusal { no: 12, place: 0 }) };
+            Ok(write_text(&if from_document { by_runs } else { send(&message, out_len) }))
         }
         ["T", kind, message, place] => {
             let (kind, message, place) = (number(kind)?, unhex(message)?, number(place)? as usize);

@@ -8,6 +8,8 @@
 //!   gen SEED COUNT compare | judge   comparisons alone
 //!   gen SEED COUNT batch | judge     night batches alone
 //!   gen SEED COUNT compact | judge   their compaction alone
+//!   gen SEED COUNT frames | judge    feeds alone, of long frames too
+//!   gen SEED COUNT send | judge      messages sent as frames, and fed again
 //!   judge short                      every message of up to two bytes, for each leaf kind and small tables
 //!   judge large                      batches at the edges of their 32-bit fields
 //!
@@ -17,6 +19,7 @@ mod area;
 mod batches;
 mod calls;
 mod large;
+mod sending;
 mod short;
 
 use area::Area;

@@ -10,6 +10,7 @@
 //!   speed warehouse  tables of the second form: small, full, and the worst pairs; the last takes minutes
 //!   speed stack      how deep the stack is under the longest chain
 //!   speed frames     the accumulator
+//!   speed sending    messages sent as frames, beside plain Rust
 
 mod batch;
 mod frames;
@@ -18,6 +19,7 @@ mod messages;
 mod pairs;
 mod paths;
 mod question;
+mod sending;
 mod stack;
 mod timing;
 mod warehouse;
@@ -34,6 +36,7 @@ fn main() {
         ("warehouse", warehouse::report),
         ("stack", stack::report),
         ("frames", frames::report),
+        ("sending", sending::report),
     ] {
         if wanted.as_deref().is_none_or(|w| w == name) {
             report();

@@ -2,15 +2,18 @@
 //! ones for the same seed: first a fixed part of edge cases, then random rounds.
 //! `gen SEED COUNT strict` prints strict reads alone; more than a third of their answers are 16.
 //! `gen SEED COUNT find` prints finds alone, `gen SEED COUNT compare` comparisons, `gen SEED COUNT batch` the three
-//! questions about night batches, `gen SEED COUNT compact` their compaction.
+//! questions about night batches, `gen SEED COUNT compact` their compaction, `gen SEED COUNT frames` feeds, of long
+//! frames too, and `gen SEED COUNT send` messages to be sent as frames.
 
 mod batches;
 mod edges;
 mod forms;
+mod frames;
 mod padded;
 mod pairs;
 mod paths;
 mod rounds;
+mod sending;
 mod tables;
 
 use oracle_driver::append::AREA;
@@ -29,8 +32,10 @@ fn main() {
         [seed, count, "compare"] => (seed, count, Stream::Compare),
         [seed, count, "batch"] => (seed, count, Stream::Batch),
         [seed, count, "compact"] => (seed, count, Stream::Compact),
+        [seed, count, "frames"] => (seed, count, Stream::Frames),
+        [seed, count, "send"] => (seed, count, Stream::Send),
         _ => {
-            eprintln!("usage: gen SEED COUNT [strict|find|compare|batch|compact]");
+            eprintln!("usage: gen SEED COUNT [strict|find|compare|batch|compact|frames|send]");
             std::process::exit(2)
         }
     };
@@ -57,6 +62,8 @@ enum Stream {
     Batch,
     /// Every batch that is checked is compacted instead, and nothing else is asked.
     Compact,
+    Frames,
+    Send,
 }
 
 struct Gen {
@@ -167,6 +174,8 @@ impl Gen {
             Stream::Find => self.paths_at_the_edge()?,
             Stream::Compare => self.pairs_at_the_edge()?,
             Stream::Batch | Stream::Compact => self.batches_at_the_edge()?,
+            Stream::Frames => self.frames_at_the_edge()?,
+            Stream::Send => self.sends_at_the_edge()?,
         }
         self.rng = Rng(seed);
         loop {
@@ -177,6 +186,8 @@ impl Gen {
                 Stream::Compare => self.compare_round()?,
                 Stream::Batch => self.batch_round()?,
                 Stream::Compact => self.compact_round()?,
+                Stream::Frames => self.frame_round()?,
+                Stream::Send => self.send_round()?,
             }
         }
     }

@@ -3,6 +3,7 @@
 mod bench;
 mod selftest;
 
+use oracle_driver::feed::ROOM;
 use oracle_driver::proto;
 use oracle_driver::table::{Table, CHAR, I16, U16};
 use std::io::{self, BufRead, BufWriter, Write};
@@ -57,7 +58,7 @@ fn lines(pairs: bool) -> bool {
     ok
 }
 
-/// F, A and T have no second source, so only R, S, W, I, C, N, K, L and P can differ.
+/// F, A and T have no second source, so only R, S, W, E, I, C, N, K, L and P can differ. E's are two encoders of ours.
 fn check() -> bool {
     let mut out = BufWriter::new(io::stdout().lock());
     let (mut seen, mut differ) = (0u64, 0u64);
@@ -91,7 +92,8 @@ fn check() -> bool {
 const T: &str = "07000000000008000000000003000000000012000000030000000100020006001e00040003005350";
 
 fn cases() -> bool {
-    let zeros = "00".repeat(256);
+    let zeros = "00".repeat(ROOM);
+    let full = "01".repeat(ROOM);
     let ten = "0102030405060708090a";
     let [u16t, i16t, chart] = [U16, I16, CHAR].map(|kind| proto::hex(&Table::leaf(kind).file()));
     let values = "0,0,0 12c,0,0 5,0,2 fffffffffffffffe,0,3";
@@ -107,7 +109,7 @@ fn cases() -> bool {
         ("9", format!("R {chart} 026162 10"), "0 3 1 | 61,0,0 | -".into()),
         ("10", format!("R {chart} 05 10"), "6 0 0 | - | -".into()),
         ("11", format!("R {chart} 00 10"), "6 0 0 | - | -".into()),
-        ("12 (document)", format!("F fa {zeros} {ten}"), format!("21 0 | 0708090a | - | {zeros}")),
+        ("12 (document), of the new room", format!("F 7fa {full} {ten}"), format!("21 0 | 0708090a | - | {full}")),
         ("13 (document)", format!("F 0 {zeros} 031122023300"), format!("23 0 | - | 11220033 | {zeros}")),
         ("mistake: 03 61 62 FF", format!("R {chart} 036162ff 10"), "6 0 0 | - | -".into()),
     ];

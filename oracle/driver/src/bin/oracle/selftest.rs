@@ -1,8 +1,9 @@
 //! Comparisons that need no stream: whole ranges of inputs, one after the other.
 
+use oracle_driver::feed::{self, ROOM};
 use oracle_driver::rng::Rng;
 use oracle_driver::table::{Table, CHAR};
-use oracle_driver::{feed, model, read, strict, WORDS};
+use oracle_driver::{model, read, strict, WORDS};
 use postcard::accumulator::{CobsAccumulator, FeedResult};
 
 pub fn run() -> bool {
@@ -72,14 +73,14 @@ pub fn run() -> bool {
     // the rest of 22/23), from states the crate can reach.
     let (mut tried, mut bad) = (0, 0);
     let mut rng = Rng(1);
-    for idx in 0..=256usize {
-        for len in [0, 1, 2, 255 - idx.min(255), 256 - idx, 257 - idx, 300] {
+    for idx in 0..=ROOM {
+        for len in [0, 1, 2, (ROOM - 1).saturating_sub(idx), ROOM - idx, ROOM + 1 - idx, ROOM + 44] {
             for zero in [
                 None,
                 Some(0),
                 Some(len / 2),
-                Some(255usize.saturating_sub(idx)),
-                Some(256 - idx),
+                Some((ROOM - 1).saturating_sub(idx)),
+                Some(ROOM - idx),
                 Some(len.saturating_sub(1)),
             ] {
                 let mut chunk: Vec<u8> = (0..len).map(|_| rng.byte().max(1)).collect();
@@ -89,9 +90,9 @@ pub fn run() -> bool {
                     }
                     chunk[z] = 0;
                 }
-                let mut acc = CobsAccumulator::<256>::new();
+                let mut acc = CobsAccumulator::<ROOM>::new();
                 let _ = acc.feed::<()>(&vec![1; idx]);
-                let mut array = [0; 256];
+                let mut array = [0; ROOM];
                 array[..idx].fill(1);
                 let doc = feed::feed(idx as u64, &array, &chunk);
                 let (class, rest) = match acc.feed::<()>(&chunk) {

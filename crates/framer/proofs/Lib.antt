@@ -1,0 +1,5 @@
+-- The laws that the functions cite.
+pub mod Runs
+pub mod Sizing
+pub mod Groups
+pub mod Promised

@@ -1,4 +1,5 @@
 //! Varints by width and length, and texts.
+use crate::messages::{name, SHORT};
 use crate::timing::{race, side};
 use serde::de::DeserializeOwned;
 use std::hint::black_box;
@@ -65,6 +66,15 @@ fn text(name: &str, text: &[u8]) {
     println!("| {name} | {:.0} | {:.0} | {:.2} |", rate(mine), rate(other), mine / other);
 }
 
+/// A name of so many ASCII bytes, in nanoseconds: so few bytes have no rate.
+fn short(len: usize) {
+    let text = &name(len).into_bytes()[..];
+    assert_eq!(call(measure_text, text), 1, "{len} bytes");
+    let [mine, other] =
+        race([side(|| call(measure_text, black_box(text))), side(|| std::str::from_utf8(black_box(text)).is_ok())]);
+    println!("| {len} bytes | {mine:.2} | {other:.2} | {:.2} |", mine / other);
+}
+
 fn repeated(part: &str, len: usize) -> Vec<u8> {
     part.bytes().cycle().take(len / part.len() * part.len()).collect()
 }
@@ -75,6 +85,12 @@ pub fn report() {
     width("u16", 3, 3, measure_u16, crate_sum::<u16>);
     width("u32", 5, 15, measure_u32, crate_sum::<u32>);
     width("u64", 10, 1, measure_u64, crate_sum::<u64>);
+    println!();
+    println!("| Short text, ASCII | ours, ns | core's from_utf8, ns | ratio |");
+    println!("|---|---|---|---|");
+    for len in SHORT {
+        short(len);
+    }
     println!();
     println!("| Text, 64 KiB | ours, MB/s | core's from_utf8, MB/s | ratio of times |");
     println!("|---|---|---|---|");

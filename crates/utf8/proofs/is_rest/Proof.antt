@@ -25,8 +25,11 @@ loop-holds c = here _ _ (search needs)
 shared-slice-read-b : tie.Need-shared-slice-read-b Inv-loop μ-loop
 shared-slice-read-b c = omega arith
 
-add-after-ascii : tie.Need-add-after-ascii Inv-loop μ-loop
-add-after-ascii c = omega arith
+add-after-eights : tie.Need-add-after-eights Inv-loop μ-loop
+add-after-eights c = omega arith
+
+after-eights-requires : tie.Need-after-eights-requires Inv-loop μ-loop
+after-eights-requires c κs = search needs
 
 after-ascii-requires : tie.Need-after-ascii-requires Inv-loop μ-loop
 after-ascii-requires c κs = search needs
@@ -35,7 +38,7 @@ loop-less : tie.Need-loop-less Inv-loop μ-loop
 loop-less c = omega arith
 
 loop-again : tie.Need-loop-again Inv-loop μ-loop
-loop-again c = on (single _ refl (omega arith) (omega arith) (c .before .before .before .before .loop .inv)) (c .after-ascii .ensures)
+loop-again c = on (single _ refl (omega arith) (omega arith) (c .before .before .before .before .before .loop .inv)) (on (c .before .after-eights .ensures) (c .after-ascii .ensures))
 
 after-lead-requires : tie.Need-after-lead-requires Inv-loop μ-loop
 after-lead-requires c κs = search needs
@@ -67,7 +70,8 @@ is-rest-spec =
     all-widths-requires
     loop-holds
     shared-slice-read-b
-    add-after-ascii
+    add-after-eights
+    after-eights-requires
     after-ascii-requires
     loop-less
     loop-again

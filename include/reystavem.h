@@ -79,14 +79,24 @@ uint64_t reystavem_append(const uint8_t *old_table, size_t old_len,
 /* How many bytes a frame may have, its closing zero among them. */
 #define REYSTAVEM_ROOM 2048
 
-/* Feeds a chunk to an accumulator: its array of REYSTAVEM_ROOM bytes and how much of that is filled.
- * The message (as many bytes) is written whole: a frame's message of *len bytes, and zeros behind it.
- * *rest_from: where the chunk's rest begins. *idx over REYSTAVEM_ROOM: 24, array and *idx as before.
- * A slice of another length: 24, the message as before too. */
+/* Feeds a chunk to an accumulator: its array of REYSTAVEM_ROOM bytes, how much of that is filled, and
+ * whether it waits for the end of an over-full frame: any number but 0, and 0 or 1 comes back. The
+ * message (as many bytes) is written whole: a frame's message of *len bytes, and zeros behind it.
+ * *rest_from: where the chunk's rest begins. *idx over REYSTAVEM_ROOM: 24, array, *idx and *waiting as
+ * before. A slice of another length: 24, the message as before too.
+ * An over-full chunk without a zero is 21 with an empty rest, and the state then waits: what comes is
+ * dropped up to the first zero, and what follows that is a chunk of its own, in the same call. */
 uint64_t reystavem_feed(uint8_t *array, size_t array_len,
                         const uint8_t *chunk, size_t chunk_len,
                         uint8_t *message, size_t message_len,
-                        uint64_t *idx, uint64_t *len, uint64_t *rest_from);
+                        uint64_t *idx, uint64_t *waiting, uint64_t *len, uint64_t *rest_from);
+
+/* The same for the label printers' bridge, whose filler has no zeros: an over-full chunk without a zero
+ * hands back what does not fit, and nothing waits. *waiting is neither read nor changed. */
+uint64_t reystavem_feed_bridge(uint8_t *array, size_t array_len,
+                               const uint8_t *chunk, size_t chunk_len,
+                               uint8_t *message, size_t message_len,
+                               uint64_t *idx, uint64_t *waiting, uint64_t *len, uint64_t *rest_from);
 
 /* Writes a message of any length as a COBS frame with its closing zero, which is its only zero; the empty
  * message is 01 00, and behind a last group of 254 bytes no empty one follows. A message of 2038 bytes or

@@ -66,6 +66,19 @@ mod ffi {
             message: *mut u8,
             message_len: usize,
             idx: *mut u64,
+            waiting: *mut u64,
+            len: *mut u64,
+            rest_from: *mut u64,
+        ) -> u64;
+        pub fn reystavem_feed_bridge(
+            array: *mut u8,
+            array_len: usize,
+            chunk: *const u8,
+            chunk_len: usize,
+            message: *mut u8,
+            message_len: usize,
+            idx: *mut u64,
+            waiting: *mut u64,
             len: *mut u64,
             rest_from: *mut u64,
         ) -> u64;
@@ -407,11 +420,12 @@ pub fn appends(old: &[u8], new: &[u8], area: &mut [u8]) -> Result<bool, (Option<
 /// How many bytes a frame may have, its closing zero among them.
 pub const ROOM: usize = 2_048;
 
-/// Collects chunks of a stream until a frame's closing zero.
+/// Collects chunks of a stream until a frame's closing zero, or waits for the end of a frame that is too long.
 #[derive(Clone, Copy, Debug, PartialEq, Eq)]
 pub struct Accumulator {
     pub array: [u8; ROOM],
     pub idx: u64,
+    pub waiting: bool,
 }
 
 /// What a feed answers.
@@ -419,7 +433,7 @@ pub struct Accumulator {
 pub enum Fed {
     /// 20: the chunk is taken, and the frame goes on.
     Consumed,
-    /// 21: the frame is longer than the room.
+    /// 21: the frame is longer than the room; the state waits for its end, if that hasn't come.
     OverFull,
     /// 22: the frame can't be decoded.
     BadFrame,
@@ -445,31 +459,56 @@ pub enum Step {
     BadState,
 }
 
+/// One of the two feeds of the static library.
+type Call = unsafe extern "C" fn(
+    *mut u8,
+    usize,
+    *const u8,
+    usize,
+    *mut u8,
+    usize,
+    *mut u64,
+    *mut u64,
+    *mut u64,
+    *mut u64,
+) -> u64;
+
 impl Accumulator {
     pub fn new() -> Self {
-        Accumulator { array: [0; ROOM], idx: 0 }
+        Accumulator { array: [0; ROOM], idx: 0, waiting: false }
     }
 
-    /// Feeds a chunk: the answer, and the part of the chunk that is still to be fed.
+    /// Feeds a chunk: the answer, and the part of the chunk that is still to be fed. Behind an over-full chunk without a
+    /// zero the state waits, and drops what comes up to the next zero.
     pub fn feed<'c>(&mut self, chunk: &'c [u8]) -> (Fed, &'c [u8]) {
         let mut message = [0; ROOM];
         let (step, rest) = self.feed_lent(chunk, &mut message);
-        let fed = match step {
-            Step::Consumed => Fed::Consumed,
-            Step::OverFull => Fed::OverFull,
-            Step::BadFrame => Fed::BadFrame,
-            Step::Frame { len } => Fed::Frame { message, len },
-            Step::BadState => Fed::BadState,
-        };
-        (fed, rest)
+        (step.with(message), rest)
     }
 
     /// The same, and the message is written to memory that is lent: a frame's message, and zeros behind it, or zeros only.
     pub fn feed_lent<'c>(&mut self, chunk: &'c [u8], message: &mut [u8; ROOM]) -> (Step, &'c [u8]) {
-        let (mut len, mut from) = (0, 0);
+        self.call(ffi::reystavem_feed, chunk, message)
+    }
+
+    /// Feeds a chunk as the label printers' bridge relies on it: nothing waits, and what doesn't fit of an over-full chunk
+    /// is handed back.
+    pub fn feed_bridge<'c>(&mut self, chunk: &'c [u8]) -> (Fed, &'c [u8]) {
+        let mut message = [0; ROOM];
+        let (step, rest) = self.feed_bridge_lent(chunk, &mut message);
+        (step.with(message), rest)
+    }
+
+    /// The same, with the message in lent memory.
+    pub fn feed_bridge_lent<'c>(&mut self, chunk: &'c [u8], message: &mut [u8; ROOM]) -> (Step, &'c [u8]) {
+        self.call(ffi::reystavem_feed_bridge, chunk, message)
+    }
+
+    fn call<'c>(&mut self, feed: Call, chunk: &'c [u8], message: &mut [u8; ROOM]) -> (Step, &'c [u8]) {
+        let (mut waiting, mut len, mut from) = (u64::from(self.waiting), 0, 0);
         // SAFETY: each slice is lent with its own length; array and message are borrowed for us alone.
         let number = unsafe {
-            ffi::reystavem_feed(
+            feed(
                 self.array.as_mut_ptr(),
                 ROOM,
                 chunk.as_ptr(),
@@ -477,10 +516,12 @@ impl Accumulator {
                 message.as_mut_ptr(),
                 ROOM,
                 &mut self.idx,
+                &mut waiting,
                 &mut len,
                 &mut from,
             )
         };
+        self.waiting = waiting != 0;
         let step = match number {
             20 => Step::Consumed,
             21 => Step::OverFull,
@@ -489,6 +530,19 @@ impl Accumulator {
             _ => Step::BadState,
         };
         (step, &chunk[from as usize..])
+    }
+}
+
+impl Step {
+    /// The answer with its message.
+    fn with(self, message: [u8; ROOM]) -> Fed {
+        match self {
+            Step::Consumed => Fed::Consumed,
+            Step::OverFull => Fed::OverFull,
+            Step::BadFrame => Fed::BadFrame,
+            Step::Frame { len } => Fed::Frame { message, len },
+            Step::BadState => Fed::BadState,
+        }
     }
 }
 

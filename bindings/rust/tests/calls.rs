@@ -193,11 +193,26 @@ fn frames_in_chunks() {
     assert_eq!(message[len..], [0; ROOM - 4]);
     assert_eq!(rest, [0x05]);
     assert_eq!(accumulator.idx, 0);
-    let mut made_up = Accumulator { array: [9; ROOM], idx: 2_049 };
+    let mut made_up = Accumulator { array: [9; ROOM], idx: 2_049, waiting: false };
     assert_eq!(made_up.feed(&[0]), (Fed::BadState, &[0][..]));
-    let mut nearly = Accumulator { array: [9; ROOM], idx: 2_042 };
+}
+
+/// Behind an over-full chunk without a zero all is dropped up to the next zero; the bridge's feed goes on at once.
+#[test]
+fn over_full_frames() {
+    let nearly = Accumulator { array: [9; ROOM], idx: 2_042, waiting: false };
     let chunk = [1, 2, 3, 4, 5, 6, 7, 8, 9, 10];
-    assert_eq!(nearly.feed(&chunk), (Fed::OverFull, &[7, 8, 9, 10][..]));
+    let mut state = nearly;
+    assert_eq!(state.feed(&chunk), (Fed::OverFull, &[][..]));
+    assert_eq!(state, Accumulator { array: [9; ROOM], idx: 0, waiting: true });
+    assert_eq!(state.feed(&[3, 5]), (Fed::Consumed, &[][..]));
+    assert_eq!(state, Accumulator { array: [9; ROOM], idx: 0, waiting: true });
+    let (fed, rest) = state.feed(&[7, 0, 2, 8, 0, 4]);
+    let Fed::Frame { message, len } = fed else { panic!("{fed:?}") };
+    assert_eq!((&message[..len], rest, state.waiting), (&[8][..], &[4][..], false));
+    let mut bridge = nearly;
+    assert_eq!(bridge.feed_bridge(&chunk), (Fed::OverFull, &[7, 8, 9, 10][..]));
+    assert_eq!(bridge, Accumulator { array: [9; ROOM], idx: 0, waiting: false });
 }
 
 /// A group of code FF is never followed by a zero, and any other but the last is.

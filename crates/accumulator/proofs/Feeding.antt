@@ -1,7 +1,7 @@
 -- The rows of document 01's table, each from the tests that lead to it.
 -- Assumes nothing.
 use mathlib.Core.Path.{_≡_, refl}
-use mathlib.Core.Bool.{false}
+use mathlib.Core.Bool.{Bool, true, false}
 use mathlib.Core.List.{List, [], _++_}
 use mathlib.Core.Option.{none, some}
 use Prim.Native.Nat.{ℕ, _+_, _-_, _≤_, _<_}
@@ -11,15 +11,15 @@ use lib.ListN.{length, take, drop}
 use lib.Dec.{eqb}
 use lib.Seq.{drop-length}
 use Rattle.wire.specs.Tests.{pick, both}
-use Rattle.wire.specs.Frames.{room, toZero, decode, padded, noMessage, framed, feedOn, feedEnd, feedFit, feedBy, rule, decodeBy}
+use Rattle.wire.specs.Frames.{room, toZero, decode, padded, noMessage, framed, feedOn, feedEnd, feedFit, feedBy, rule, feed}
 use Rattle.wire.specs.declared.FeedAnswer.{FeedAnswer}
 use Rattle.wire.specs.declared.FeedAnswer.the-variants.{Consumed, OverFull, BadFrame, Frame, BadState}
 use Rattle.accumulator.specs.declared.Step.{Step}
-use Rattle.accumulator.specs.Feeding.{written, feedLent, without, Feeds}
-use Rattle.accumulator.specs.Parts.{with, Holds}
-use Rattle.accumulator.proofs.Search.{first}
+use Rattle.accumulator.specs.Feeding.{written, marked, fitting, unfit, bridgeLent, feedLent, without, Feeds, FeedsMarked}
+use Rattle.decoder.specs.Parts.{with, Holds}
+use Rattle.decoder.proofs.Search.{first}
 
-feeds-without : {a : FeedAnswer} {array rest chunk : List ℕ} {idx used : ℕ} → used ≤ length chunk → drop used chunk ≡ rest → Feeds (written (noMessage a rest array idx)) chunk array (padded []) (without a idx used)
+pub feeds-without : {a : FeedAnswer} {array rest chunk : List ℕ} {idx used : ℕ} → used ≤ length chunk → drop used chunk ≡ rest → Feeds (written (noMessage a rest array idx)) chunk array (padded []) (without a idx used)
 unfolding noMessage
 feeds-without le is = record { answer = refl; idx = refl; len = refl; within = le; rest = is; array = refl; message = refl }
 
@@ -64,20 +64,53 @@ module _ (array : List ℕ) (idx : ℕ) (chunk : List ℕ) where
             let f = first chunk n ends in
             rw (le-leb (idx + (n + 1)) room (omega arith), h .is) (record { answer = refl; idx = refl; len = h .count; within = omega arith; rest = refl; array = refl; message = h .bytes })
 
-  module _ (message : List ℕ) where
-    unfit : both (eqb (length array) room) (eqb (length message) room) ≡ false → Feeds (feedLent array idx chunk message) chunk array message (without BadState idx 0)
-    unfolding feedLent pick noMessage
-    unfit is = rw is (record { answer = refl; idx = refl; len = refl; within = omega arith; rest = refl; array = refl; message = refl })
+-- ---- slices of another length
 
-    pub array-unfit : (length array ≡ room → ⊥) → Feeds (feedLent array idx chunk message) chunk array message (without BadState idx 0)
-    unfolding both
-    array-unfit bad = unfit (rw (ne-eqb (length array) room bad))
+module _ (array message : List ℕ) where
+  fit-none : (length array ≡ room → ⊥) → fitting array message ≡ false
+  unfolding fitting both
+  fit-none bad = rw (ne-eqb (length array) room bad)
 
-    module _ (long : length array ≡ room) where
-      pub message-unfit : (length message ≡ room → ⊥) → Feeds (feedLent array idx chunk message) chunk array message (without BadState idx 0)
-      unfolding both
-      message-unfit bad = unfit (rw (eq-eqb (length array) room long, ne-eqb (length message) room bad))
+  fit-half : length array ≡ room → (length message ≡ room → ⊥) → fitting array message ≡ false
+  unfolding fitting both
+  fit-half long bad = rw (eq-eqb (length array) room long, ne-eqb (length message) room bad)
 
-      pub lent-fit : {array′ message′ : List ℕ} {r : Step} → length message ≡ room → Feeds (written (feedBy rule array idx chunk)) chunk array′ message′ r → Feeds (feedLent array idx chunk message) chunk array′ message′ r
-      unfolding feedLent both pick
-      lent-fit long′ h = rw (eq-eqb (length array) room long, eq-eqb (length message) room long′) h
+  pub fit-both : length array ≡ room → length message ≡ room → fitting array message ≡ true
+  unfolding fitting both
+  fit-both long long′ = rw (eq-eqb (length array) room long, eq-eqb (length message) room long′)
+
+  module _ (idx : ℕ) (chunk : List ℕ) where
+    unfit-step : Feeds (unfit array idx chunk message) chunk array message (without BadState idx 0)
+    unfolding noMessage
+    unfit-step = record { answer = refl; idx = refl; len = refl; within = omega arith; rest = refl; array = refl; message = refl }
+
+    -- the bridge's feed
+    bridge-unfit : fitting array message ≡ false → Feeds (bridgeLent array idx chunk message) chunk array message (without BadState idx 0)
+    unfolding bridgeLent pick
+    bridge-unfit is = rw is unfit-step
+
+    pub bridge-array : (length array ≡ room → ⊥) → Feeds (bridgeLent array idx chunk message) chunk array message (without BadState idx 0)
+    bridge-array bad = bridge-unfit (fit-none bad)
+
+    pub bridge-message : length array ≡ room → (length message ≡ room → ⊥) → Feeds (bridgeLent array idx chunk message) chunk array message (without BadState idx 0)
+    bridge-message long bad = bridge-unfit (fit-half long bad)
+
+    pub bridge-is : length array ≡ room → length message ≡ room → bridgeLent array idx chunk message ≡ written (feedBy rule array idx chunk)
+    unfolding bridgeLent pick
+    bridge-is long long′ = rw (fit-both long long′)
+
+    -- the default
+    module _ (waiting : Bool) where
+      lent-unfit : fitting array message ≡ false → FeedsMarked (feedLent array idx waiting chunk message) chunk array message (record { step = without BadState idx 0; waiting = waiting })
+      unfolding feedLent pick
+      lent-unfit is = rw is (record { step = unfit-step; waiting = refl })
+
+      pub lent-array : (length array ≡ room → ⊥) → FeedsMarked (feedLent array idx waiting chunk message) chunk array message (record { step = without BadState idx 0; waiting = waiting })
+      lent-array bad = lent-unfit (fit-none bad)
+
+      pub lent-message : length array ≡ room → (length message ≡ room → ⊥) → FeedsMarked (feedLent array idx waiting chunk message) chunk array message (record { step = without BadState idx 0; waiting = waiting })
+      lent-message long bad = lent-unfit (fit-half long bad)
+
+      pub lent-is : length array ≡ room → length message ≡ room → feedLent array idx waiting chunk message ≡ marked (feed array idx waiting chunk)
+      unfolding feedLent pick
+      lent-is long long′ = rw (fit-both long long′)

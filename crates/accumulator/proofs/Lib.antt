@@ -1,8 +1,5 @@
-pub mod Search
-pub mod Chunks
-pub mod Decoding
 pub mod Feeding
+pub mod Marks
+pub mod Waiting
 pub mod Unique
 pub mod Progress
-pub mod Cuts
-pub mod OldRoom

@@ -1,4 +1,2 @@
 pub mod Feeding
 pub mod Parts
-pub mod Stream
-pub mod OldRoom

@@ -1,55 +1,21 @@
--- What the private functions ask and promise, beside wire's definitions.
+-- What the private functions ask, beside wire's definitions.
 -- Assumes nothing.
 use mathlib.Core.Path.{_≡_}
-use mathlib.Core.List.{List, [], _++_}
-use mathlib.Core.Option.{Option, none, some, Option·map}
-use Prim.Native.Nat.{ℕ, _+_, _≤_}
-use lib.ListN.{length, take, drop}
+use mathlib.Core.List.{List, []}
+use mathlib.Core.Option.{some}
+use Prim.Native.Nat.{ℕ, _≤_}
+use lib.ListN.{length}
 use Rattle.wire.specs.Frames.{room, toZero, padded}
-use Rattle.accumulator.specs.declared.Found.{Found}
-use Rattle.accumulator.specs.declared.Found.the-variants.{At, Nothing}
-use Rattle.accumulator.specs.declared.Decoded.{Decoded}
-use Rattle.accumulator.specs.declared.Decoded.the-variants.{Message, Bad}
-
-unfoldable pub foundOf : Option ℕ → Found
-foundOf none = Nothing
-foundOf (some n) = At n
-
--- the first i bytes hold no zero
-pub record Seeks (s : List ℕ) (i : ℕ) : Type 0 where
-  pub within : i ≤ length s
-  pub same : Option·map (λ (n : ℕ). n + i) (toZero (drop i s)) ≡ toZero s
-
--- an array with a part in it, from `at` on
-abbrev pub with : List ℕ → ℕ → List ℕ → List ℕ
-with array at part = take at array ++ (part ++ drop (at + length part) array)
-
--- a frame that fits and has no zero, and a message's slice to decode it into
-pub record Decodable (frame message : List ℕ) : Type 0 where
-  pub fits : length frame ≤ room
-  pub clean : toZero frame ≡ none
-  pub zeros : message ≡ padded []
-
--- a decoded message stands in front of zeros
-pub record Holds (decoded : Option (List ℕ)) (message : List ℕ) (len : ℕ) : Type 0 where
-  pub made : List ℕ
-  pub is : decoded ≡ some made
-  pub bytes : message ≡ padded made
-  pub count : len ≡ length made
-
-abbrev pub Decodes : Option (List ℕ) → List ℕ → Decoded → Type 0
-Decodes m message (Message len) = Holds m message len
-Decodes m message Bad = m ≡ none
-
--- the two parts of a frame that fits
-pub record Joinable (front back message : List ℕ) : Type 0 where
-  pub fits : length front + length back ≤ room
-  pub clean : toZero back ≡ none
-  pub zeros : message ≡ padded []
 
 -- a good state, and a chunk whose first zero is at n
 pub record Endable (array : List ℕ) (idx : ℕ) (chunk : List ℕ) (n : ℕ) (message : List ℕ) : Type 0 where
   pub long : length array ≡ room
   pub good : idx ≤ room
   pub ends : toZero chunk ≡ some n
+  pub zeros : message ≡ padded []
+
+-- a good state, and a message's slice that is all zeros
+pub record Fresh (array : List ℕ) (idx : ℕ) (message : List ℕ) : Type 0 where
+  pub long : length array ≡ room
+  pub good : idx ≤ room
   pub zeros : message ≡ padded []

@@ -1,22 +1,28 @@
-// The accumulator: collects chunks of a stream until a frame's closing zero, and decodes the frame.
+// The accumulator: collects chunks of a stream until a frame's closing zero, and decodes the frame. Behind a frame that is
+// too long it waits for the zero; the bridge's feeds don't.
 // What is right stands in wire's specs/Frames.antt; what lent memory holds then, in specs/Feeding.antt.
+use decoder::Decoded;
+use decoder::Found;
 use wire::FeedAnswer;
 ghost use mathlib.Core.Path.{_≡_};
-ghost use mathlib.Core.List.{[], _++_};
+ghost use mathlib.Core.Bool.{false};
+ghost use mathlib.Core.List.{[]};
 ghost use Prim.Native.Nat.{_+_, _≤_};
-ghost use lib.ListN.{length, drop, replicate};
-ghost use Rattle.wire.specs.Frames.{room, gapAfter, toZero, padded, feedOn, feedEnd};
-ghost use Rattle.wire.specs.Frames.{decode as messageOf, rule, feedBy};
-ghost use Rattle.accumulator.specs.Feeding.{written, feedLent, without, Feeds, FeedsBy};
-ghost use Rattle.accumulator.specs.Parts.{foundOf, Seeks, with, Decodable, Decodes, Joinable, Endable};
+ghost use lib.ListN.{length, drop};
+ghost use Rattle.wire.specs.Frames.{room, toZero, padded, feedOn, feedEnd};
+ghost use Rattle.wire.specs.Frames.{rule, feedBy, feedBridge, feedFresh, feedWaiting};
+ghost use Rattle.wire.specs.Frames.{feed as feedOf};
+ghost use Rattle.accumulator.specs.Feeding.{written, marked, bridgeLent, feedLent, without, Feeds, FeedsMarked, FeedsBy};
+ghost use Rattle.accumulator.specs.Parts.{Endable, Fresh};
 
 // The bytes that a frame may have, its closing zero among them.
-pub const ROOM: usize = 2048;
+pub const ROOM: usize = decoder::ROOM;
 
-// The state: a frame's first idx bytes stand in the array's front.
+// The state: a frame's first idx bytes stand in the array's front, or the end of an over-full frame is waited for.
 pub struct Accumulator {
     pub array: [u8; ROOM],
     pub idx: usize,
+    pub waiting: bool,
 }
 
 // What a feed in lent memory answers: the state's new idx, the message's length, and how many bytes
@@ -28,6 +34,12 @@ pub struct Step {
     pub used: usize,
 }
 
+// The same, and whether the state then waits.
+pub struct Marked {
+    pub step: Step,
+    pub waiting: bool,
+}
+
 // What a feed of a state by value answers: the new state, the message with its length and zeros
 // behind it, and how many bytes of the chunk are consumed.
 pub struct Fed {
@@ -36,156 +48,6 @@ pub struct Fed {
     pub message: [u8; ROOM],
     pub len: usize,
     pub used: usize,
-}
-
-enum Found {
-    At(usize),
-    Nothing,
-}
-
-enum Decoded {
-    Message(usize),
-    Bad,
-}
-
-// A place in front of which there is no zero: the first zero stands in the four bytes from there, or the end does. Four
-// are tested in a turn, for speed.
-fn near_zero(s: &[u8]) -> usize
-    ensures { λ r. ⌜ Seeks (now (s .entry)) r ⌝ }
-{
-    let mut i = 0;
-    while 4 <= s.len() - i {
-        if s[i] == 0 {
-            return i;
-        }
-        if s[i + 1] == 0 {
-            return i;
-        }
-        if s[i + 2] == 0 {
-            return i;
-        }
-        if s[i + 3] == 0 {
-            return i;
-        }
-        i += 4;
-    }
-    i
-}
-
-fn first_zero(s: &[u8]) -> Found
-    ensures { λ r. ⌜ r ≡ foundOf (toZero (now (s .entry))) ⌝ }
-{
-    let mut i = near_zero(s);
-    while i < s.len() {
-        if s[i] == 0 {
-            return Found::At(i);
-        }
-        i += 1;
-    }
-    Found::Nothing
-}
-
-// Copies a part into an array of the room's length, from `at` on.
-fn put(array: &mut [u8], at: usize, part: &[u8])
-    requires { ⌜ (at + length (now part) ≤ room) × (length (now array) ≡ room) ⌝ }
-    ensures { λ _. ⌜ now (array .exit) ≡ with (now (array .entry)) at (now (part .entry)) ⌝ }
-{
-    let mut i = 0;
-    while i < part.len() {
-        let to = at + i;
-        array[to] = part[i];
-        i += 1;
-    }
-}
-
-fn clear(message: &mut [u8])
-    ensures { λ _. ⌜ now (message .exit) ≡ replicate (length (now (message .entry))) 0 ⌝ }
-{
-    let mut i = 0;
-    while i < message.len() {
-        message[i] = 0;
-        i += 1;
-    }
-}
-
-fn zeros() -> [u8; ROOM]
-    ensures { λ r. ⌜ r ≡ padded [] ⌝ }
-{
-    [0; ROOM]
-}
-
-// How many zeros of the message stand behind a group of this code, where another group follows.
-fn gap_after(code: u8) -> usize
-    ensures { λ r. ⌜ r ≡ gapAfter code ⌝ }
-{
-    if code == 255 {
-        return 0;
-    }
-    1
-}
-
-// The message of a frame without its closing zero, group by group. The message's slice is zeros
-// behind `len`, so that a gap's zeros stand there already.
-fn decode(frame: &[u8], message: &mut [u8]) -> Decoded
-    requires { ⌜ Decodable (now frame) (now message) ⌝ }
-    ensures { λ r. ⌜ Decodes (messageOf (now (frame .entry))) (now (message .exit)) r ⌝ }
-{
-    let mut gap = 0;
-    let mut len = 0;
-    let mut i = 0;
-    while i < frame.len() {
-        let code = frame[i];
-        let from = i + 1;
-        let to = len + gap;
-        let after = gap_after(code);
-        if code == 1 {
-            // A run of zeros: the next code is read without waiting for this one.
-            len = to;
-            gap = after;
-            i = from;
-        } else if code == 2 {
-            // One byte wants no loop.
-            if from == frame.len() {
-                return Decoded::Bad;
-            }
-            message[to] = frame[from];
-            len = to + 1;
-            gap = after;
-            i = from + 1;
-        } else {
-            let count = code as usize - 1;
-            if frame.len() - from < count {
-                return Decoded::Bad;
-            }
-            let end = from + count;
-            put(message, to, &frame[from..end]);
-            len = to + count;
-            gap = after;
-            i = end;
-        }
-    }
-    Decoded::Message(len)
-}
-
-// The message of a frame that stands in two parts, of which only the first can hold a zero. A frame that came in one chunk
-// is decoded where it stands; any other is joined first.
-fn decode_parts(front: &[u8], back: &[u8], message: &mut [u8]) -> Decoded
-    requires { ⌜ Joinable (now front) (now back) (now message) ⌝ }
-    ensures { λ r. ⌜ Decodes (messageOf (now (front .entry) ++ now (back .entry))) (now (message .exit)) r ⌝ }
-{
-    if front.len() == 0 {
-        return decode(back, message);
-    }
-    let found = first_zero(front);
-    let Found::Nothing = found else {
-        return Decoded::Bad;
-    };
-    let mut frame = zeros();
-    let at = front.len();
-    let end = at + back.len();
-    put(&mut frame, 0, front);
-    put(&mut frame, at, back);
-    decode(&frame[..end], message)
 }
 
 // An answer that comes with no message.
@@ -210,7 +72,7 @@ fn feed_on(array: &mut [u8], idx: usize, chunk: &[u8]) -> Step
     if free < all {
         return no_message(FeedAnswer::OverFull, 0, free);
     }
-    put(array, idx, chunk);
+    decoder::put(array, idx, chunk);
     let end = idx + all;
     no_message(FeedAnswer::Consumed, end, all)
 }
@@ -226,9 +88,9 @@ fn feed_end(array: &[u8], idx: usize, chunk: &[u8], n: usize, message: &mut [u8]
     }
     let front = &array[..idx];
     let back = &chunk[..n];
-    let decoded = decode_parts(front, back, message);
+    let decoded = decoder::decode_parts(front, back, message);
     let Decoded::Message(len) = decoded else {
-        clear(message);
+        decoder::clear(message);
         return no_message(FeedAnswer::BadFrame, 0, used);
     };
     Step {
@@ -239,25 +101,128 @@ fn feed_end(array: &[u8], idx: usize, chunk: &[u8], n: usize, message: &mut [u8]
     }
 }
 
-// A feed whose slices have the room's length, and whose message is all zeros.
-fn feed_cleared(array: &mut [u8], idx: usize, chunk: &[u8], message: &mut [u8]) -> Step
+// The bridge's feed, where slices have the room's length and the message is all zeros: document 01's step table.
+fn feed_table(array: &mut [u8], idx: usize, chunk: &[u8], message: &mut [u8]) -> Step
     requires { ⌜ (length (now array) ≡ room) × (now message ≡ padded []) ⌝ }
     ensures { λ r. ⌜ Feeds (written (feedBy rule (now (array .entry)) idx (now (chunk .entry)))) (now (chunk .entry)) (now (array .exit)) (now (message .exit)) r ⌝ }
 {
     if ROOM < idx {
         return no_message(FeedAnswer::BadState, idx, 0);
     }
-    let found = first_zero(chunk);
+    let found = decoder::first_zero(chunk);
     let Found::At(n) = found else {
         return feed_on(array, idx, chunk);
     };
     feed_end(array, idx, chunk, n, message)
 }
 
+// A chunk that comes to a good state that isn't waiting: where it lacks a zero and doesn't fit, nothing of it is kept, and
+// the state waits.
+fn feed_fresh(array: &mut [u8], idx: usize, chunk: &[u8], message: &mut [u8]) -> Marked
+    requires { ⌜ Fresh (now array) idx (now message) ⌝ }
+    ensures { λ r. ⌜ FeedsMarked (marked (feedFresh (now (array .entry)) idx (now (chunk .entry)))) (now (chunk .entry)) (now (array .exit)) (now (message .exit)) r ⌝ }
+{
+    let found = decoder::first_zero(chunk);
+    let Found::At(n) = found else {
+        let all = chunk.len();
+        if ROOM - idx < all {
+            let dropped = no_message(FeedAnswer::OverFull, 0, all);
+            return Marked {
+                step: dropped,
+                waiting: true,
+            };
+        }
+        let taken = feed_on(array, idx, chunk);
+        return Marked {
+            step: taken,
+            waiting: false,
+        };
+    };
+    let step = feed_end(array, idx, chunk, n, message);
+    Marked {
+        step,
+        waiting: false,
+    }
+}
+
+// A chunk that comes to a waiting state: all up to the first zero is dropped, and what follows is a chunk of its own.
+fn feed_waiting(array: &mut [u8], chunk: &[u8], message: &mut [u8]) -> Marked
+    requires { ⌜ Fresh (now array) 0 (now message) ⌝ }
+    ensures { λ r. ⌜ FeedsMarked (marked (feedWaiting (now (array .entry)) (now (chunk .entry)) (toZero (now (chunk .entry))))) (now (chunk .entry)) (now (array .exit)) (now (message .exit)) r ⌝ }
+{
+    let found = decoder::first_zero(chunk);
+    let Found::At(n) = found else {
+        let all = chunk.len();
+        let dropped = no_message(FeedAnswer::Consumed, 0, all);
+        return Marked {
+            step: dropped,
+            waiting: true,
+        };
+    };
+    let from = n + 1;
+    let behind = feed_fresh(array, 0, &chunk[from..], message);
+    let step = behind.step;
+    let used = from + step.used;
+    let answer = step.answer;
+    let counted = Step {
+        answer,
+        idx: step.idx,
+        len: step.len,
+        used,
+    };
+    Marked {
+        step: counted,
+        waiting: behind.waiting,
+    }
+}
+
+// The default feed, where slices have the room's length and the message is all zeros.
+fn feed_marked(
+    array: &mut [u8],
+    idx: usize,
+    waiting: bool,
+    chunk: &[u8],
+    message: &mut [u8],
+) -> Marked
+    requires { ⌜ (length (now array) ≡ room) × (now message ≡ padded []) ⌝ }
+    ensures { λ r. ⌜ FeedsMarked (marked (feedOf (now (array .entry)) idx waiting (now (chunk .entry)))) (now (chunk .entry)) (now (array .exit)) (now (message .exit)) r ⌝ }
+{
+    if idx > ROOM {
+        let bad = no_message(FeedAnswer::BadState, idx, 0);
+        return Marked { step: bad, waiting };
+    }
+    if waiting {
+        return feed_waiting(array, chunk, message);
+    }
+    feed_fresh(array, idx, chunk, message)
+}
+
 // Feeds a chunk to a state whose array is lent, and writes the message's slice whole. Where one of
 // the two hasn't the room's length, the state is bad, and nothing changes.
-pub fn feed_lent(array: &mut [u8], idx: usize, chunk: &[u8], message: &mut [u8]) -> Step
-    ensures { λ r. ⌜ Feeds (feedLent (now (array .entry)) idx (now (chunk .entry)) (now (message .entry))) (now (chunk .entry)) (now (array .exit)) (now (message .exit)) r ⌝ }
+pub fn feed_lent(
+    array: &mut [u8],
+    idx: usize,
+    waiting: bool,
+    chunk: &[u8],
+    message: &mut [u8],
+) -> Marked
+    ensures { λ r. ⌜ FeedsMarked (feedLent (now (array .entry)) idx waiting (now (chunk .entry)) (now (message .entry))) (now (chunk .entry)) (now (array .exit)) (now (message .exit)) r ⌝ }
+{
+    if array.len() != ROOM {
+        let bad = no_message(FeedAnswer::BadState, idx, 0);
+        return Marked { step: bad, waiting };
+    }
+    if message.len() != ROOM {
+        let bad = no_message(FeedAnswer::BadState, idx, 0);
+        return Marked { step: bad, waiting };
+    }
+    decoder::clear(message);
+    feed_marked(array, idx, waiting, chunk, message)
+}
+
+// The same by the bridge's way, which neither reads nor changes a mark.
+pub fn feed_bridge_lent(array: &mut [u8], idx: usize, chunk: &[u8], message: &mut [u8]) -> Step
+    ensures { λ r. ⌜ Feeds (bridgeLent (now (array .entry)) idx (now (chunk .entry)) (now (message .entry))) (now (chunk .entry)) (now (array .exit)) (now (message .exit)) r ⌝ }
 {
     if array.len() != ROOM {
         return no_message(FeedAnswer::BadState, idx, 0);
@@ -265,31 +230,62 @@ pub fn feed_lent(array: &mut [u8], idx: usize, chunk: &[u8], message: &mut [u8])
     if message.len() != ROOM {
         return no_message(FeedAnswer::BadState, idx, 0);
     }
-    clear(message);
-    feed_cleared(array, idx, chunk, message)
+    decoder::clear(message);
+    feed_table(array, idx, chunk, message)
 }
 
 impl Accumulator {
     pub fn new() -> Self
-        ensures { λ r. ⌜ (r .array ≡ padded []) × (r .idx ≡ 0) ⌝ }
+        ensures { λ r. ⌜ (r .array ≡ padded []) × (r .idx ≡ 0) × (r .waiting ≡ false) ⌝ }
     {
-        let array = zeros();
-        Accumulator { array, idx: 0 }
+        let array = decoder::zeros();
+        Accumulator {
+            array,
+            idx: 0,
+            waiting: false,
+        }
     }
 }
 
 // Feeds a chunk to a state by value.
 pub fn feed(state: Accumulator, chunk: &[u8]) -> Fed
-    ensures { λ r. ⌜ FeedsBy (feedBy rule (state .array) (state .idx) (now (chunk .entry))) (now (chunk .entry)) r ⌝ }
+    ensures { λ r. ⌜ FeedsBy (feedOf (state .array) (state .idx) (state .waiting) (now (chunk .entry))) (now (chunk .entry)) r ⌝ }
 {
     let mut array = state.array;
     let idx = state.idx;
-    let mut message = zeros();
-    let step = feed_cleared(&mut array, idx, chunk, &mut message);
+    let waiting = state.waiting;
+    let mut message = decoder::zeros();
+    let got = feed_marked(&mut array, idx, waiting, chunk, &mut message);
+    let step = got.step;
     let answer = step.answer;
     let state = Accumulator {
         array,
         idx: step.idx,
+        waiting: got.waiting,
+    };
+    Fed {
+        answer,
+        state,
+        message,
+        len: step.len,
+        used: step.used,
+    }
+}
+
+// The same by the bridge's way, which passes the mark through.
+pub fn feed_bridge(state: Accumulator, chunk: &[u8]) -> Fed
+    ensures { λ r. ⌜ FeedsBy (feedBridge (state .array) (state .idx) (state .waiting) (now (chunk .entry))) (now (chunk .entry)) r ⌝ }
+{
+    let mut array = state.array;
+    let idx = state.idx;
+    let waiting = state.waiting;
+    let mut message = decoder::zeros();
+    let step = feed_table(&mut array, idx, chunk, &mut message);
+    let answer = step.answer;
+    let state = Accumulator {
+        array,
+        idx: step.idx,
+        waiting,
     };
     Fed {
         answer,

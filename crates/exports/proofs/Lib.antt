@@ -1,3 +1,4 @@
 -- What the functions' answers come to, over plain values.
 pub mod Told
 pub mod Unique
+pub mod Marks

@@ -43,11 +43,12 @@ one-asked a area x y h k = λ i. (
 )
 
 pub one-fed-call : OneFedCall
-one-fed-call f chunk x y h k =
-    let from : x .3 ≡ y .3 = omega (arith, simp length-drop at (ap length (alike (h .rest) (k .rest)))) in
+one-fed-call f mark chunk x y h k =
+    let from : x .4 ≡ y .4 = omega (arith, simp length-drop at (ap length (alike (h .rest) (k .rest)))) in
     λ i. (
       alike (h .number) (k .number) i,
       alike (h .idx) (k .idx) i,
+      alike (h .waiting) (k .waiting) i,
       alike (h .len) (k .len) i,
       from i,
       alike (h .array) (k .array) i,

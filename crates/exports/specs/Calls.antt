@@ -1,9 +1,14 @@
 -- What each function of the static library returns and leaves in the numbers, words and bytes that it was lent.
 -- Assumes nothing.
 use mathlib.Core.Path.{_≡_}
+use mathlib.Core.Bool.{Bool, true, false}
 use mathlib.Core.List.{List}
 use Prim.Native.Nat.{ℕ, _≤_}
 use lib.ListN.{length, drop}
+use lib.Dec.{eqb}
+use Rattle.wire.specs.Tests.{pick}
+use Rattle.wire.specs.declared.FeedAnswer.{FeedAnswer}
+use Rattle.wire.specs.declared.FeedAnswer.the-variants.{Consumed, OverFull, BadFrame, Frame, BadState}
 use Rattle.wire.specs.declared.ReadAnswer.{ReadAnswer}
 use Rattle.wire.specs.declared.ReadAnswer.the-variants.{Done, Refused as NotRead}
 use Rattle.wire.specs.declared.AskAnswer.{AskAnswer}
@@ -12,7 +17,7 @@ use Rattle.wire.specs.declared.TakeAnswer.{TakeAnswer}
 use Rattle.wire.specs.declared.TakeAnswer.the-variants.{Done as Taken, Refused as NotTaken}
 use Rattle.wire.specs.Reading.{Run}
 use Rattle.wire.specs.Answers.{sideNumber, yesNumber, feedNumber, Numbered, readSays, writeSays, takeSays, askSays, storeWith, readAnswer, placeAfter, Form, writeAnswer, outWith, areaAfter}
-use Rattle.accumulator.specs.Feeding.{Lent}
+use Rattle.accumulator.specs.Feeding.{Lent, MarkedLent}
 use Rattle.desk.specs.declared.FindAnswer.{FindAnswer}
 use Rattle.desk.specs.Path.{findSays}
 use Rattle.desk.specs.Path as path
@@ -65,9 +70,26 @@ pub record Asked (a : AskAnswer) (area : List ℕ) (r p t y : ℕ) (area′ : Li
   pub yes : y ≡ yesOf a
   pub handed : area′ ≡ areaAfter area
 
-pub record Fed (f : Lent) (chunk : List ℕ) (r i n from : ℕ) (array′ message′ : List ℕ) : Type 0 where
+-- a mark is a number: any but 0 waits
+unfoldable pub waits : ℕ → Bool
+waits mark = pick (eqb mark 0) false true
+
+-- the mark that a default feed leaves: 24 leaves the number as it was, and any other answer 0 or 1
+unfoldable pub markAfter : FeedAnswer → ℕ → Bool → ℕ
+markAfter BadState before waiting = before
+markAfter Consumed before waiting = yesNumber waiting
+markAfter OverFull before waiting = yesNumber waiting
+markAfter BadFrame before waiting = yesNumber waiting
+markAfter Frame before waiting = yesNumber waiting
+
+abbrev pub markOf : MarkedLent → ℕ → ℕ
+markOf f before = markAfter (f .lent .fed .answer) before (f .waiting)
+
+-- a feed that leaves a mark
+pub record Fed (f : Lent) (mark : ℕ) (chunk : List ℕ) (r i w n from : ℕ) (array′ message′ : List ℕ) : Type 0 where
   pub number : r ≡ feedNumber (f .fed .answer)
   pub idx : i ≡ f .fed .idx
+  pub waiting : w ≡ mark
   pub len : n ≡ length (f .fed .message)
   pub within : from ≤ length chunk
   pub rest : drop from chunk ≡ f .fed .rest

@@ -29,7 +29,7 @@ abbrev pub OneAsked : Type 0
 OneAsked = (a : AskAnswer) (area : List ℕ) → Unique (λ (x : ℕ × ℕ × ℕ × ℕ × List ℕ). Asked a area (x .0) (x .1) (x .2) (x .3) (x .4))
 
 abbrev pub OneFedCall : Type 0
-OneFedCall = (f : Lent) (chunk : List ℕ) → Unique (λ (x : ℕ × ℕ × ℕ × ℕ × List ℕ × List ℕ). Fed f chunk (x .0) (x .1) (x .2) (x .3) (x .4) (x .5))
+OneFedCall = (f : Lent) (mark : ℕ) (chunk : List ℕ) → Unique (λ (x : ℕ × ℕ × ℕ × ℕ × ℕ × List ℕ × List ℕ). Fed f mark chunk (x .0) (x .1) (x .2) (x .3) (x .4) (x .5) (x .6))
 
 abbrev pub OneTook : Type 0
 OneTook = (t : TakeAnswer) (before : ℕ) → Unique (λ (x : ℕ × ℕ × ℕ × ℕ × ℕ). Took t before (x .0) (x .1) (x .2) (x .3) (x .4))

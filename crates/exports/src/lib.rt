@@ -8,19 +8,21 @@ use desk::FindAnswer;
 use desk::Key;
 use wire::AskAnswer;
 use wire::Checked;
+use wire::FeedAnswer;
 use wire::ReadAnswer;
 use wire::TakeAnswer;
 use wire::WriteAnswer;
+ghost use mathlib.Core.Path.{_≡_};
 ghost use lib.ListN.{length};
 ghost use Rattle.wire.specs.Table.{check};
 ghost use Rattle.wire.specs.Answers.{checkSays, reads, readsStrict, takes, writes, asks};
 ghost use Rattle.wire.specs.Sending.{sends};
-ghost use Rattle.accumulator.specs.Feeding.{feedLent};
+ghost use Rattle.accumulator.specs.Feeding.{feedLent, bridgeLent};
 ghost use Rattle.desk.specs.Path.{finds};
 ghost use Rattle.desk.specs.Differ.{compares};
 ghost use Rattle.desk.specs.Batch.{faultSays, checkedSays, batchCheck, writes as batchWrites};
 ghost use Rattle.desk.specs.Compact.{compacts};
-ghost use Rattle.exports.specs.Calls.{Told, Counted, Read, Wrote, Asked, Fed, Took, Found, Compared, BatchWrote, LastFound};
+ghost use Rattle.exports.specs.Calls.{Told, Counted, Read, Wrote, Asked, waits, markAfter, markOf, Fed, Took, Found, Compared, BatchWrote, LastFound};
 
 #[no_mangle]
 pub extern "C" fn reystavem_check(table: &[u8], place: &mut u64) -> u64
@@ -153,22 +155,70 @@ pub extern "C" fn reystavem_append(
     }
 }
 
+// A mark is a number: any but 0 waits.
+fn is_waiting(mark: u64) -> bool
+    ensures { λ r. ⌜ r ≡ waits mark ⌝ }
+{
+    if mark == 0 {
+        return false;
+    }
+    true
+}
+
+// The mark behind a feed: 24 leaves it as it was.
+fn mark_after(answer: FeedAnswer, before: u64, waiting: bool) -> u64
+    ensures { λ r. ⌜ r ≡ markAfter answer before waiting ⌝ }
+{
+    match answer {
+        FeedAnswer::Consumed => numbers::yes(waiting),
+        FeedAnswer::OverFull => numbers::yes(waiting),
+        FeedAnswer::BadFrame => numbers::yes(waiting),
+        FeedAnswer::Frame => numbers::yes(waiting),
+        FeedAnswer::BadState => before,
+    }
+}
+
 #[no_mangle]
 pub extern "C" fn reystavem_feed(
     array: &mut [u8],
     chunk: &[u8],
     message: &mut [u8],
     idx: &mut u64,
+    waiting: &mut u64,
     len: &mut u64,
     rest_from: &mut u64,
 ) -> u64
-    ensures { λ r. ⌜ Fed (feedLent (now (array .entry)) (now (idx .entry)) (now (chunk .entry)) (now (message .entry))) (now (chunk .entry)) r (now (idx .exit)) (now (len .exit)) (now («rest_from» .exit)) (now (array .exit)) (now (message .exit)) ⌝ }
+    ensures { λ r. ⌜ Fed (feedLent (now (array .entry)) (now (idx .entry)) (waits (now (waiting .entry))) (now (chunk .entry)) (now (message .entry)) .lent) (markOf (feedLent (now (array .entry)) (now (idx .entry)) (waits (now (waiting .entry))) (now (chunk .entry)) (now (message .entry))) (now (waiting .entry))) (now (chunk .entry)) r (now (idx .exit)) (now (waiting .exit)) (now (len .exit)) (now («rest_from» .exit)) (now (array .exit)) (now (message .exit)) ⌝ }
 {
-    let step = accumulator::feed_lent(array, *idx as usize, chunk, message);
+    let before = *waiting;
+    let waits = is_waiting(before);
+    let got = accumulator::feed_lent(array, *idx as usize, waits, chunk, message);
+    let step = got.step;
+    let answer = step.answer;
     *idx = step.idx as u64;
+    *waiting = mark_after(answer, before, got.waiting);
     *len = step.len as u64;
     *rest_from = step.used as u64;
-    let answer = step.answer;
+    numbers::feed(answer)
+}
+
+#[no_mangle]
+pub extern "C" fn reystavem_feed_bridge(
+    array: &mut [u8],
+    chunk: &[u8],
+    message: &mut [u8],
+    idx: &mut u64,
+    waiting: &mut u64,
+    len: &mut u64,
+    rest_from: &mut u64,
+) -> u64
+    ensures { λ r. ⌜ Fed (bridgeLent (now (array .entry)) (now (idx .entry)) (now (chunk .entry)) (now (message .entry))) (now (waiting .entry)) (now (chunk .entry)) r (now (idx .exit)) (now (waiting .exit)) (now (len .exit)) (now («rest_from» .exit)) (now (array .exit)) (now (message .exit)) ⌝ }
+{
+    let fed = accumulator::feed_bridge_lent(array, *idx as usize, chunk, message);
+    *idx = fed.idx as u64;
+    *len = fed.len as u64;
+    *rest_from = fed.used as u64;
+    let answer = fed.answer;
     numbers::feed(answer)
 }
 

@@ -12,7 +12,7 @@ use Rattle.wire.specs.Tests.{pick}
 use Rattle.wire.specs.Frames.{toZero}
 use Rattle.wire.specs.Sending.{encode, frame, group}
 use Rattle.laws.proofs.Splits.{by-eq}
-use Rattle.accumulator.proofs.Search.{clean-both}
+use Rattle.decoder.proofs.Search.{clean-both}
 use Rattle.framing.proofs.Groups.{by-groups}
 use Rattle.framing.proofs.Sizes.{length-group, size-through, size-to-end}
 use Rattle.framer.specs.Steps.{throughZero}

@@ -8,7 +8,7 @@ use native.Mathlib.Omega.{arith}
 use lib.ListN.{length, replicate}
 use Rattle.wire.specs.Frames.{rule, gapAfter, toZero, groupsBy, decodeBy, decode}
 use Rattle.wire.specs.Sending.{unfilled, groupsOf, groups, group, coded, encode, frame}
-use Rattle.accumulator.proofs.Decoding.{gap-full, gap-other, glued, group-whole, decode-clean}
+use Rattle.decoder.proofs.Decoding.{gap-full, gap-other, glued, group-whole, decode-clean}
 use Rattle.framing.specs.Sending.{ComesBack, OneZero, OneMessage}
 use Rattle.framing.proofs.Held.{Holds, holds-none, clean-more, long-more, holds-more}
 

@@ -10,7 +10,7 @@ use lib.Seq.{length-take-le}
 use Rattle.wire.specs.Frames.{toZero}
 use Rattle.wire.specs.Sending.{unfilled, groupsOf, groups, group, coded, encode}
 use Rattle.laws.proofs.Splits.{by-lt}
-use Rattle.accumulator.proofs.Search.{clean-front, clean-back, clean-head}
+use Rattle.decoder.proofs.Search.{clean-front, clean-back, clean-head}
 use Rattle.framing.specs.Sending.{GroupByGroup}
 
 -- bytes that are not zero and leave the group unfilled

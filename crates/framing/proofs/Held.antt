@@ -8,7 +8,7 @@ use native.Mathlib.Omega.{arith}
 use lib.ListN.{length, length-append}
 use Rattle.wire.specs.Frames.{toZero}
 use Rattle.wire.specs.Sending.{unfilled}
-use Rattle.accumulator.proofs.Search.{clean-both}
+use Rattle.decoder.proofs.Search.{clean-both}
 
 pub record Holds (held : List ℕ) (left : ℕ) : Type 0 where
   pub clean : toZero held ≡ none

@@ -8,18 +8,27 @@ use lib.ListN.{length, take, drop, length-append}
 use lib.Seq.{take-at}
 use Rattle.wire.specs.declared.WriteAnswer.the-variants.{Done}
 use Rattle.wire.specs.Answers.{form, writeAnswer, outWith}
+use Rattle.wire.specs.Frames.{feed, feedBridge}
 use Rattle.wire.specs.Sending.{encode, frame, sends}
 use Rattle.laws.specs.Answered.{Writes}
 use Rattle.laws.proofs.Splits.{by-le}
-use Rattle.accumulator.proofs.Cuts.{any-cut}
+use Rattle.accumulator.specs.Feeding.{Feeder}
+use Rattle.streams.specs.Cuts.{AnyCut}
+use Rattle.streams.proofs.Cuts.{any-cut, any-cut-bridge}
 use Rattle.framing.specs.Fed.{SentAndFed, WroteAndFed}
 use Rattle.framing.proofs.Encoding.{comes-back}
 use Rattle.framing.proofs.Sizes.{sends-exactly}
 
-pub sent-and-fed : SentAndFed
+cut-sent : (by : Feeder) → AnyCut by → SentAndFed by
 unfolding frame
-sent-and-fed array chunks m behind long fits e =
-    any-cut array chunks (encode m) m behind long (comes-back m) (omega (arith, length-append (encode m) (0 ∷ []))) (e ∙ append-assoc (encode m) (0 ∷ []) behind)
+cut-sent by any array chunks m behind fits e =
+    any array chunks (encode m) m behind (comes-back m) (omega (arith, length-append (encode m) (0 ∷ []))) (e ∙ append-assoc (encode m) (0 ∷ []) behind)
+
+pub sent-and-fed : SentAndFed feed
+sent-and-fed = cut-sent feed any-cut
+
+pub sent-and-fed-bridge : SentAndFed feedBridge
+sent-and-fed-bridge = cut-sent feedBridge any-cut-bridge
 
 -- what was written, and how much
 record Wrote (m left : List ℕ) (n : ℕ) : Type 0 where
@@ -39,7 +48,13 @@ wrote m out left n w =
     (λ lo. wrote-form m out left n (rw (sends-exactly m (length out) .fits lo) at w))
     (λ hi. let e = rw (sends-exactly m (length out) .over hi) at (w .answered) in let z : _≡_ {A = ℕ} 0 1 = cc in absurd (omega arith))
 
-pub wrote-and-fed : WroteAndFed
-wrote-and-fed m out left n w array chunks behind long fits e =
+cut-wrote : (by : Feeder) → SentAndFed by → WroteAndFed by
+cut-wrote by sent m out left n w array chunks behind fits e =
     let h = wrote m out left n w in
-    sent-and-fed array chunks m behind long (omega (arith, h .many)) (e ∙ ap (λ (s : List ℕ). s ++ behind) (h .bytes))
+    sent array chunks m behind (omega (arith, h .many)) (e ∙ ap (λ (s : List ℕ). s ++ behind) (h .bytes))
+
+pub wrote-and-fed : WroteAndFed feed
+wrote-and-fed = cut-wrote feed sent-and-fed
+
+pub wrote-and-fed-bridge : WroteAndFed feedBridge
+wrote-and-fed-bridge = cut-wrote feedBridge sent-and-fed-bridge

@@ -25,7 +25,7 @@ use Rattle.laws.proofs.Rule.{at}
 use Rattle.laws.proofs.Bounds.{head-fits}
 use Rattle.laws.proofs.KindRanges.{low-alone, high-alone}
 use Rattle.laws.proofs.Offsets.{pooled-ends}
-use Rattle.utf8.specs.Contents.{contentIf}
+use Rattle.texts.specs.Contents.{contentIf}
 use Rattle.leaf.specs.Leaves.{takeAt, Within}
 
 -- to unfold this is to compute a kind from its number

@@ -133,7 +133,7 @@ fn text(kind: u8, part: &[u8], place: usize) -> Item
     ensures { λ r. ⌜ r ≡ head (kindOf kind) 0 place (now (part .entry)) ⌝ }
 {
     match kind {
-        11 => utf8::take_char(part),
+        11 => texts::take_char(part),
         14 => Item::Took {
             own: Own {
                 first: 0,
@@ -142,7 +142,7 @@ fn text(kind: u8, part: &[u8], place: usize) -> Item
                 shortest: true,
             },
         },
-        _ => at_place(utf8::take_content(part, kind == 12), place),
+        _ => at_place(texts::take_content(part, kind == 12), place),
     }
 }
 

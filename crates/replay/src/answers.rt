@@ -1,6 +1,7 @@
 // Asks again what a record asked, and compares the whole of the answer with the record's. HOW.md has
 // the order of a record's parts.
 use crate::nights;
+use accumulator::Step;
 use desk::CompareAnswer;
 use desk::FindAnswer;
 use recorded::field;
@@ -36,6 +37,7 @@ pub enum Kind {
     Write,
     Append,
     Feed,
+    Bridge,
     Take,
     Find,
     Compare,
@@ -56,7 +58,8 @@ pub fn fields(kind: Kind) -> usize {
         Kind::ReadStrict => 8,
         Kind::Write => 8,
         Kind::Append => 6,
-        Kind::Feed => 10,
+        Kind::Feed => 12,
+        Kind::Bridge => 10,
         Kind::Take => 8,
         Kind::Find => 7,
         Kind::Compare => 8,
@@ -272,13 +275,9 @@ fn holds(record: &[u8], array: &[u8], message: &[u8]) -> bool {
     check::same(message, &decoded)
 }
 
-fn feed_agrees(record: &[u8]) -> bool {
-    let mut array = [0u8; ROOM];
-    let mut message = [BEFORE_BYTE; ROOM];
-    memory::put(&mut array, 0, field::part(record, 4));
-    let idx = field::number_at(record, 3) as usize;
+// Whether a step's numbers and what it hands back of the chunk are the record's.
+fn step_agrees(record: &[u8], step: Step) -> bool {
     let chunk = field::part(record, 5);
-    let step = accumulator::feed_lent(&mut array, idx, chunk, &mut message);
     let answer = step.answer;
     let used = step.used;
     let told = Told {
@@ -289,7 +288,36 @@ fn feed_agrees(record: &[u8]) -> bool {
     if !tells(record, told) {
         return false;
     }
-    if !check::same(tail::from(chunk, used), field::part(record, 6)) {
+    check::same(tail::from(chunk, used), field::part(record, 6))
+}
+
+// By default, with the mark before and after it.
+fn feed_agrees(record: &[u8]) -> bool {
+    let mut array = [0u8; ROOM];
+    let mut message = [BEFORE_BYTE; ROOM];
+    memory::put(&mut array, 0, field::part(record, 4));
+    let idx = field::number_at(record, 3) as usize;
+    let waiting = field::number_at(record, 10) == 1;
+    let chunk = field::part(record, 5);
+    let got = accumulator::feed_lent(&mut array, idx, waiting, chunk, &mut message);
+    if !step_agrees(record, got.step) {
+        return false;
+    }
+    let waits = field::number_at(record, 11) == 1;
+    if got.waiting != waits {
+        return false;
+    }
+    holds(record, &array, &message)
+}
+
+fn bridge_agrees(record: &[u8]) -> bool {
+    let mut array = [0u8; ROOM];
+    let mut message = [BEFORE_BYTE; ROOM];
+    memory::put(&mut array, 0, field::part(record, 4));
+    let idx = field::number_at(record, 3) as usize;
+    let chunk = field::part(record, 5);
+    let step = accumulator::feed_bridge_lent(&mut array, idx, chunk, &mut message);
+    if !step_agrees(record, step) {
         return false;
     }
     holds(record, &array, &message)
@@ -492,6 +520,7 @@ pub fn agrees(kind: Kind, record: &[u8]) -> bool {
         Kind::Write => write_agrees(record),
         Kind::Append => ask_agrees(record),
         Kind::Feed => feed_agrees(record),
+        Kind::Bridge => bridge_agrees(record),
         Kind::Take => take_agrees(record),
         Kind::Find => find_agrees(record),
         Kind::Compare => compare_agrees(record),

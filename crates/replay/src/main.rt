@@ -90,8 +90,9 @@ fn main() {
     replay(Kind::ReadStrict, b"strict");
     replay(Kind::Write, b"writing");
     replay(Kind::Append, b"appending");
-    replay(Kind::Feed, b"feeding");
-    replay(Kind::Feed, b"frames");
+    replay(Kind::Feed, b"waiting");
+    replay(Kind::Bridge, b"feeding");
+    replay(Kind::Bridge, b"frames");
     replay(Kind::Take, b"taking");
     replay(Kind::Find, b"finding");
     replay(Kind::Compare, b"comparing");

@@ -73,7 +73,7 @@ pub fn indent(depth: usize) {
 }
 
 // How many bytes stand before the first such sign; all if there is none.
-fn before(text: &[u8], sign: u8) -> usize
+pub fn before(text: &[u8], sign: u8) -> usize
     ensures { λ r. ⌜ r ≤ length (now (text .entry)) ⌝ }
 {
     let mut i = 0;

@@ -16,7 +16,7 @@ pub fn words_room() -> [u64; WORDS]
     [0; WORDS]
 }
 
-// The room for a table, a message, a stream, a pool, an output or the file of a value list: as many bytes as those words have.
+// The room for a table, a message, a pool, an output or the file of a value list: as many bytes as those words have.
 pub const LARGE: usize = 8 * WORDS;
 
 pub fn large_room() -> [u8; LARGE]

@@ -35,7 +35,7 @@ fn say_usage() {
         shelf compare TABLE ONE OTHER       where two messages differ: the places of each such item in both\n\
         shelf changes TABLE ONE OTHER       the same in words: each such item with its path, in both messages\n\
         shelf append OLD NEW                does the new table only append to the old one?\n\
-        shelf frames FILE                   the messages in a recorded stream of frames\n\
+        shelf frames [FILE]                 the messages in a recorded stream of frames, of any length; without FILE, from standard input\n\
         shelf frame MESSAGE OUT             writes a message as a frame, to be sent\n\
         shelf write TABLE VALUES POOL OUT   writes the message of a value list\n\
         shelf batch write TABLE MESSAGES STORE_FIELD PRODUCT_FIELD OUT   writes a night's batch of messages that stand end to end\n\
@@ -88,7 +88,8 @@ fn verb_of(word: &[u8]) -> Verb {
 // Whether a command with this verb may have so many words; a path may be of any length.
 fn fits(verb: Verb, count: usize) -> bool {
     match verb {
-        Verb::Table | Verb::Frames => count == 3,
+        Verb::Table => count == 3,
+        Verb::Frames => count == 2 || count == 3,
         Verb::Read | Verb::Bytes | Verb::ReadStrict | Verb::Append | Verb::Frame => count == 4,
         Verb::Find => 4 <= count,
         Verb::Compare | Verb::Changes => count == 5,

@@ -1,5 +1,5 @@
 // Feeds standard input to the accumulator in odd chunks and writes what each feed answers: its
-// number and name, how long the rest is, the state's idx, and a frame's message in hex.
+// number and name, how long the rest is, the state's idx and whether it waits, and a frame's message in hex.
 use accumulator::Accumulator;
 use accumulator::Fed;
 use say::front;
@@ -34,6 +34,9 @@ fn say_fed(fed: Fed, rest: usize) {
     say_answer(answer);
     say_counted(b", rest ", rest);
     say_counted(b", idx ", state.idx);
+    if state.waiting {
+        say(b", waiting");
+    }
     say(b", message");
     say_bytes(front(&message, fed.len));
     say(b"\n");

@@ -5,25 +5,21 @@ use mathlib.Core.Bool.{Bool, true, false, not}
 use mathlib.Core.List.{List, [], _∷_}
 use Prim.Native.Nat.{ℕ, zero, suc, _+_, _-_, _<_, _≤_}
 use native.Mathlib.Omega.{arith}
-use lib.ListN.{length, getD, drop, drop-of-length-le, length-drop}
+use lib.ListN.{length, getD, drop, length-drop}
 use lib.Dec.{leb}
 use borrow.Author.Tests.{lt-ltb, le-ltb, not-true, not-false}
 use Rattle.wire.specs.Tests.{both}
 use Rattle.wire.specs.Text.{widthOf, lowOf, highOf, utf8F, utf8}
 use Rattle.laws.proofs.Splits.{by-test, by-lt}
 use Rattle.laws.proofs.Parts.{next}
-use Rattle.laws.proofs.Utf8.{width-one, width-none, width-two, width-three, width-four, width-high, width-few}
-use Rattle.utf8.specs.Scan.{Lead, Same}
+use Rattle.laws.proofs.Utf8.{width-none, width-two, width-three, width-four, width-high}
+use Rattle.singles.specs.Passed.{Same}
+use Rattle.singles.proofs.Passed.{between}
+use Rattle.utf8.specs.Scan.{Lead}
 
 -- `left` more bytes of a sequence at i, the next of them from lo to hi, and then whole sequences, are what a text is from `from` on
 pub record Scan (s : List ℕ) (from left lo hi i : ℕ) : Type 0 where
   pub same : utf8F left lo hi (drop i s) ≡ utf8 (drop from s)
-
--- between sequences there is no range
-between : (lo hi : ℕ) (t : List ℕ) → utf8F 0 lo hi t ≡ utf8 t
-unfolding utf8F utf8
-between lo hi [] = refl
-between lo hi (b ∷ t) = refl
 
 -- ---- inside a sequence
 
@@ -80,38 +76,3 @@ module _ {s : List ℕ} {at w : ℕ} {widths : List (List ℕ)} (l : Lead s at w
   pub opens : (w ≡ 0 → ⊥) → Scan s at (w - 1) (lowOf (getD s at 0)) (highOf (getD s at 0)) (at + 1)
   unfolding utf8 utf8F both
   opens z = record { same = rw (next s at (l .inside), e, lt-ltb 0 (widthOf (getD s at 0)) (omega (arith, z))) }
-
--- ---- from a place to a later one
-
-pub here : (s : List ℕ) (i : ℕ) → i ≤ length s → Same s i i
-here s i h = record { up = omega arith; inside = h; same = refl }
-
-pub on : {s : List ℕ} {i j k : ℕ} → Same s i j → Same s j k → Same s i k
-on p q = record { up = omega arith; inside = q .inside; same = q .same ∙ p .same }
-
--- past a single byte
-pub single : {s : List ℕ} {from i : ℕ} (j : ℕ) → i + 1 ≡ j → i < length s → getD s i 0 < 0x80 → Same s from i → Same s from j
-unfolding utf8 utf8F both
-single {s} {from} {i} j e h b r =
-    let past : utf8 (drop (i + 1) s) ≡ utf8 (drop i s) = rw (next s i h, width-one (getD s i 0) b) (sym (between _ _ (drop (i + 1) s))) in
-    on r (subst (Same s i) e (record { up = omega arith; inside = omega arith; same = past }))
-
--- past up to four of them
-module _ {s : List ℕ} {from i : ℕ} (r : Same s from i) (h : i + 4 ≤ length s) (b0 : getD s i 0 < 0x80) where
-  pub one-on : Same s from (i + 1)
-  one-on = single (i + 1) refl (omega arith) b0 r
-
-  module _ (b1 : getD s (i + 1) 0 < 0x80) where
-    pub two-on : Same s from (i + 2)
-    two-on = single (i + 2) (omega arith) (omega arith) b1 one-on
-
-    module _ (b2 : getD s (i + 2) 0 < 0x80) where
-      pub three-on : Same s from (i + 3)
-      three-on = single (i + 3) (omega arith) (omega arith) b2 two-on
-
-      pub four-on : getD s (i + 3) 0 < 0x80 → Same s from (i + 4)
-      four-on b3 = single (i + 4) (omega arith) (omega arith) b3 three-on
-
-pub all-read : {s : List ℕ} {from i : ℕ} → Same s from i → length s ≤ i → true ≡ utf8 (drop from s)
-unfolding utf8 utf8F
-all-read {s} r h = rw (drop-of-length-le s h) at (r .same)

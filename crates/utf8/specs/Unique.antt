@@ -4,13 +4,10 @@ use mathlib.Core.Path.{_≡_}
 use mathlib.Core.Bool.{Bool}
 use mathlib.Core.List.{List}
 use Prim.Native.Nat.{ℕ}
-use Rattle.wire.specs.declared.Item.{Item}
-use Rattle.wire.specs.Shape.{char, pooled}
+use Rattle.wire.specs.Shape.{char}
 use Rattle.wire.specs.Text.{utf8, firstChar, isChar}
-use Rattle.wire.specs.Reading.{isContent, readPlain, head}
 use Rattle.laws.specs.Unique.{Unique}
 use Rattle.utf8.specs.Chars.{Form}
-use Rattle.utf8.specs.Contents.{contentIf}
 
 abbrev pub OneIsText : Type 0
 OneIsText = (s : List ℕ) → Unique (λ (r : Bool). r ≡ utf8 s)
@@ -24,12 +21,3 @@ OneIsChar = (c : ℕ) → Unique (λ (r : Bool). r ≡ isChar c)
 -- the array, and how many of its bytes are the char's
 abbrev pub OneCharBytes : Type 0
 OneCharBytes = (c : ℕ) → Unique (λ (r : List ℕ × ℕ). Form c (r .0) (r .1))
-
-abbrev pub OneTakeChar : Type 0
-OneTakeChar = (s : List ℕ) → Unique (λ (r : Item). r ≡ readPlain char s)
-
-abbrev pub OneIsContent : Type 0
-OneIsContent = (text : Bool) (s : List ℕ) → Unique (λ (r : Bool). r ≡ isContent (contentIf text) s)
-
-abbrev pub OneTakeContent : Type 0
-OneTakeContent = (text : Bool) (s : List ℕ) → Unique (λ (r : Item). r ≡ head (pooled (contentIf text)) 0 0 s)

@@ -18,7 +18,7 @@ use Rattle.wire.specs.declared.AskAnswer.the-variants.{Says, Refused as 
 use Rattle.wire.specs.Table.{first, second, goodTrailer, shortChain, check, shapeOf}
 use Rattle.wire.specs.Values.{Value, number, content, Valued, whole, tooShort, unknown, values}
 use Rattle.wire.specs.Reading.{Run}
-use Rattle.wire.specs.Frames.{Fed, rule, oldRule, decodeBy, feedBy}
+use Rattle.wire.specs.Frames.{Fed, Marked, rule, oldRule, decodeBy, feedBy, feedBridge, feed}
 use Rattle.wire.specs.Answers.{refusalNumber, feedNumber, Numbered, readSays, writeSays, askSays, entriesOf, storeWith, reads, readsStrict, readAnswer, restOf, takes, placeAfter, Form, writes, writeAnswer, outWith, asksWith, areaAfter, zeroed}
 
 -- ---- calls and answers
@@ -30,6 +30,7 @@ pub data Call : Type 0 where
   valuing : (table ws pool : List ℕ) → Call
   asking : (old new : List ℕ) (bytes : ℕ) → Call
   feeding feedingBefore : (array : List ℕ) (idx : ℕ) (chunk : List ℕ) → Call
+  feedingMarked bridging : (array : List ℕ) (idx : ℕ) (waiting : Bool) (chunk : List ℕ) → Call
 
 pub data Said : Type 0 where
   read : (number place count : ℕ) (store rest : List ℕ) → Said
@@ -39,6 +40,7 @@ pub data Said : Type 0 where
   badTable : Said
   asked : (number place : ℕ) (yes : Bool) → Said
   fed : (number : ℕ) (message rest array : List ℕ) (idx : ℕ) → Said
+  fedMarked : (number : ℕ) (message rest array : List ℕ) (idx : ℕ) (waiting : Bool) → Said
 
 unfoldable pub readSaid : Run → ReadAnswer → List ℕ → List ℕ → Said
 readSaid r answered message store = read (readSays answered .number) (readSays answered .place) (length (r .made)) (storeWith (r .made) store) (restOf message answered)
@@ -69,6 +71,9 @@ askedSaid answered = asked (askSays answered .number) (askSays answered .place) 
 unfoldable pub fedSaid : Fed → Said
 fedSaid got = fed (feedNumber (got .answer)) (got .message) (got .rest) (got .array) (got .idx)
 
+unfoldable pub markedSaid : Marked → Said
+markedSaid got = fedMarked (feedNumber (got .fed .answer)) (got .fed .message) (got .fed .rest) (got .fed .array) (got .fed .idx) (got .waiting)
+
 unfoldable pub answer : Call → Said
 answer (reading table message store) = readRun (reads table message store) message store
 answer (readingStrictly table message store) = readRun (readsStrict table message store) message store
@@ -78,6 +83,8 @@ answer (valuing table ws pool) = valuesBy (check table) table ws pool
 answer (asking old new bytes) = askedSaid (asksWith bytes old new)
 answer (feeding array idx chunk) = fedSaid (feedBy rule array idx chunk)
 answer (feedingBefore array idx chunk) = fedSaid (feedBy oldRule array idx chunk)
+answer (feedingMarked array idx waiting chunk) = markedSaid (feed array idx waiting chunk)
+answer (bridging array idx waiting chunk) = markedSaid (feedBridge array idx waiting chunk)
 
 pub record Case : Type 0 where
   pub call : Call
@@ -296,6 +303,32 @@ long =
     ∷ case (feedingBefore oldArray 0 (0xff ∷ (run ++ (1 ∷ 0 ∷ [])))) (fed 21 [] [] oldArray 0)
     ∷ case (feedingBefore oldArray 257 (0 ∷ [])) (fed 24 [] (0 ∷ []) oldArray 257)
     ∷ case (feedingBefore oldArray 254 (1 ∷ 1 ∷ [])) (fed 20 [] [] (replicate 254 9 ++ (1 ∷ 1 ∷ [])) 256)
+    ∷ []
+
+unfoldable pub ten : List ℕ
+ten = 1 ∷ 2 ∷ 3 ∷ 4 ∷ 5 ∷ 6 ∷ 7 ∷ 8 ∷ 9 ∷ 10 ∷ []
+
+-- T-07: an over-full chunk without a zero and with one; what a waiting state does with each kind of chunk; a bad state first; and the bridge's way
+unfoldable pub waits : List Case
+waits =
+    case (feedingMarked array 2042 false ten) (fedMarked 21 [] [] array 0 true)
+    ∷ case (feedingMarked array 2046 false (1 ∷ 1 ∷ [])) (fedMarked 20 [] [] (replicate 2046 9 ++ (1 ∷ 1 ∷ [])) 2048 false)
+    ∷ case (feedingMarked ones 2048 false (0 ∷ 5 ∷ [])) (fedMarked 21 [] (5 ∷ []) ones 0 false)
+    ∷ case (feedingMarked array 0 false (0x03 ∷ 0x11 ∷ 0x22 ∷ 0x02 ∷ 0x33 ∷ 0x00 ∷ [])) (fedMarked 23 (0x11 ∷ 0x22 ∷ 0x00 ∷ 0x33 ∷ []) [] array 0 false)
+    ∷ case (feedingMarked array 7 true (5 ∷ 6 ∷ [])) (fedMarked 20 [] [] array 0 true)
+    ∷ case (feedingMarked array 7 true []) (fedMarked 20 [] [] array 0 true)
+    ∷ case (feedingMarked array 7 true (5 ∷ 6 ∷ 0 ∷ [])) (fedMarked 20 [] [] array 0 false)
+    ∷ case (feedingMarked array 7 true (5 ∷ 0 ∷ 2 ∷ 8 ∷ 0 ∷ 4 ∷ [])) (fedMarked 23 (8 ∷ []) (4 ∷ []) array 0 false)
+    ∷ case (feedingMarked array 7 true (5 ∷ 0 ∷ 2 ∷ 8 ∷ [])) (fedMarked 20 [] [] (2 ∷ 8 ∷ replicate 2046 9) 2 false)
+    ∷ case (feedingMarked array 7 true (0 ∷ 0 ∷ 4 ∷ [])) (fedMarked 23 [] (4 ∷ []) array 0 false)
+    ∷ case (feedingMarked array 2048 true (0 ∷ 5 ∷ [])) (fedMarked 20 [] [] (5 ∷ replicate 2047 9) 1 false)
+    ∷ case (feedingMarked array 7 true (0 ∷ (ones ++ (5 ∷ [])))) (fedMarked 21 [] [] array 0 true)
+    ∷ case (feedingMarked array 7 true (3 ∷ 0 ∷ 3 ∷ 5 ∷ 0 ∷ [])) (fedMarked 22 [] [] array 0 false)
+    ∷ case (feedingMarked array 2049 true (0 ∷ [])) (fedMarked 24 [] (0 ∷ []) array 2049 true)
+    ∷ case (feedingMarked array 2049 false (0 ∷ [])) (fedMarked 24 [] (0 ∷ []) array 2049 false)
+    ∷ case (bridging array 2042 false ten) (fedMarked 21 [] (7 ∷ 8 ∷ 9 ∷ 10 ∷ []) array 0 false)
+    ∷ case (bridging array 2042 true ten) (fedMarked 21 [] (7 ∷ 8 ∷ 9 ∷ 10 ∷ []) array 0 true)
+    ∷ case (bridging array 0 true (2 ∷ 8 ∷ 0 ∷ 4 ∷ [])) (fedMarked 23 (8 ∷ []) (4 ∷ []) array 0 true)
     ∷ []
 
 -- what T-03 mends: document 01's rule gives a long frame's message a zero that was not in it

@@ -5,7 +5,7 @@ use mathlib.Core.List.{List, [], _∷_, _++_}
 use mathlib.Core.Option.{Option, none, some, Option·map}
 use Prim.Native.Nat.{ℕ, zero, suc, _+_, _-_}
 use lib.ListN.{length, take, drop, replicate}
-use lib.Dec.{leb, eqb}
+use lib.Dec.{leb, ltb, eqb}
 use Rattle.wire.specs.declared.FeedAnswer.{FeedAnswer}
 use Rattle.wire.specs.declared.FeedAnswer.the-variants.{Consumed, OverFull, BadFrame, Frame, BadState}
 use Rattle.wire.specs.Tests.{pick}
@@ -109,3 +109,42 @@ module _ (r : Rule) where
 -- the array that comes with an answer: the message with zeros behind it
 unfoldable pub padded : List ℕ → List ℕ
 padded m = m ++ replicate (room - length m) 0
+
+-- ---- the waiting mark
+
+-- a feed, and whether the state that it leaves waits for the end of an over-full frame
+pub record Marked : Type 0 where
+  pub fed : Fed
+  pub waiting : Bool
+
+-- the bridge's way: document 01's step table, and the mark passed through unread
+unfoldable pub feedBridge : List ℕ → ℕ → Bool → List ℕ → Marked
+feedBridge array idx waiting chunk = record { fed = feedBy rule array idx chunk; waiting = waiting }
+
+-- a chunk that lacks a zero and does not fit
+unfoldable pub spills : ℕ → List ℕ → Option ℕ → Bool
+spills idx chunk none = ltb room (idx + length chunk)
+spills idx chunk (some n) = false
+
+-- not waiting: of such a chunk nothing is left, and the end of its frame is waited for; for any other the step table stands
+unfoldable pub feedFresh : List ℕ → ℕ → List ℕ → Marked
+feedFresh array idx chunk =
+    pick (spills idx chunk (toZero chunk))
+    (record { fed = noMessage OverFull [] array 0; waiting = true })
+    (record { fed = feedBy rule array idx chunk; waiting = false })
+
+-- waiting: all up to the first zero is dropped, and what follows it is a chunk of its own, from idx 0
+unfoldable pub feedWaiting : List ℕ → List ℕ → Option ℕ → Marked
+feedWaiting array chunk none = record { fed = noMessage Consumed [] array 0; waiting = true }
+feedWaiting array chunk (some n) = feedFresh array 0 (drop (n + 1) chunk)
+
+unfoldable pub feedMarked : List ℕ → ℕ → Bool → List ℕ → Marked
+feedMarked array idx false chunk = feedFresh array idx chunk
+feedMarked array idx true chunk = feedWaiting array chunk (toZero chunk)
+
+-- the default; a bad state comes before all else, and nothing of it changes
+unfoldable pub feed : List ℕ → ℕ → Bool → List ℕ → Marked
+feed array idx waiting chunk =
+    pick (leb idx room)
+    (feedMarked array idx waiting chunk)
+    (record { fed = noMessage BadState chunk array idx; waiting = waiting })

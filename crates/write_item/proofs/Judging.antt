@@ -21,7 +21,7 @@ use Rattle.laws.proofs.Splits.{by-test, not-both, both-left, both-right}
 use Rattle.laws.proofs.Rule.{at}
 use Rattle.laws.proofs.Own.{single-second}
 use Rattle.laws.proofs.EachKind.{end, _&_, in-kinds}
-use Rattle.utf8.specs.Contents.{contentIf}
+use Rattle.texts.specs.Contents.{contentIf}
 use Rattle.write_item.specs.Own.{signAt, widthAt, isSome, Judges, JudgesLeaf}
 use Rattle.write_item.proofs.Sixths.{signed-int, unsigned-int, little-sixth, big-sixth}
 

@@ -16,7 +16,7 @@ ghost use Rattle.wire.specs.Writing.{withCount, headBytes};
 ghost use Rattle.laws.specs.KindRanges.{IsInner, IsLeaf};
 ghost use Rattle.zigzag.specs.Widths.{widthOf};
 ghost use Rattle.fixint.specs.Sizes.{orderOf};
-ghost use Rattle.utf8.specs.Contents.{contentIf};
+ghost use Rattle.texts.specs.Contents.{contentIf};
 ghost use Rattle.output.specs.Bytes.{Puts};
 ghost use Rattle.write_item.specs.Own.{signAt, widthAt, isSome, Known, JudgesLeaf, Judges, Lets, Fits, Ready, Spells, SpellsEntry};
 
@@ -184,7 +184,7 @@ fn fits_part(first: u64, second: u64, pool: &[u8], text: bool) -> bool
     }
     let start = first as usize;
     let end = start + second as usize;
-    utf8::is_content(&pool[start..end], text)
+    texts::is_content(&pool[start..end], text)
 }
 
 // That of another leaf: but for a text and bytes, the second word is 0.

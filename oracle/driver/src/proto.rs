@@ -2,7 +2,7 @@
 
 use crate::append::{appends, Which};
 use crate::compare::{self, Of, Pair};
-use crate::feed::{self, feed, ROOM};
+use crate::feed::{self, feed, feed_waiting, ROOM};
 use crate::send::send;
 use crate::{batch, find, model, read, strict, write, Entry, ReadAnswer, Refusal};
 use core::fmt::Write;
@@ -132,6 +132,13 @@ pub fn answer(line: &str, from_document: bool) -> Result<String, String> {
             let chunk = unhex(chunk)?;
             let a = feed(number(idx)?, &array, &chunk);
             Ok(format!("{} {:x} | {} | {} | {}", a.no, a.idx, hex(a.rest), hex(&a.message), hex(&a.array)))
+        }
+        ["G", idx, waiting, array, chunk] => {
+            let array: [u8; ROOM] = unhex(array)?.try_into().map_err(|_| "array is not of the room's length")?;
+            let chunk = unhex(chunk)?;
+            let (a, waits) = feed_waiting(number(idx)?, number(waiting)? != 0, &array, &chunk);
+            let waits = u8::from(waits);
+            Ok(format!("{} {:x} {waits} | {} | {} | {}", a.no, a.idx, hex(a.rest), hex(&a.message), hex(&a.array)))
         }
         ["E", message, out_len] => {
             let (message, out_len) = (unhex(message)?, number(out_len)? as usize);

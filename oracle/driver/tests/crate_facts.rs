@@ -3,6 +3,7 @@
 
 use core::cell::Cell;
 use core::fmt;
+use postcard::accumulator::{CobsAccumulator, FeedResult};
 use postcard::{Deserializer, Error};
 use serde::de::{SeqAccess, Visitor};
 use serde::{Deserialize, Deserializer as _};
@@ -150,4 +151,15 @@ fn where_items_stand() {
     let got = oracle_driver::read::read_good(&table, &message, 11, vec![]);
     assert_eq!((got.no, got.place), (0, 11));
     assert_eq!(got.entries.iter().map(|e| e[2]).collect::<Vec<_>>(), [0, 0, 3, 3, 6, 7, 8, 9, 10, 11, 11]);
+}
+
+/// What doesn't fit of an over-full chunk comes back, and is the front of the next frame when it is fed again.
+#[test]
+fn nothing_waits_behind_an_over_full_chunk() {
+    let mut accumulator = CobsAccumulator::<4>::new();
+    let FeedResult::OverFull(rest) = accumulator.feed::<u8>(&[1; 5]) else { panic!("not over-full") };
+    assert_eq!(rest, [1]);
+    assert!(matches!(accumulator.feed::<u8>(&[1]), FeedResult::Consumed));
+    let FeedResult::OverFull(rest) = accumulator.feed::<u8>(&[2, 7, 9, 8]) else { panic!("the byte before isn't kept") };
+    assert_eq!(rest, [8]);
 }

@@ -1,13 +1,13 @@
 //! One request to both: the library's answer with all lent memory, and the oracle's.
 use crate::area::Area;
 use crate::batches;
+use crate::feeding;
 use crate::sending;
 use oracle_driver::append::{appends, Which};
 use oracle_driver::compare::{compare, Of};
-use oracle_driver::feed::{feed, ROOM};
 use oracle_driver::proto::{number, unhex, words};
 use oracle_driver::{find, read, strict, table, write, ReadAnswer, Refusal, WORDS};
-use reystavem::{Accumulator, Fed, Message, Read, ReadRefused, Refused, Side};
+use reystavem::{Message, Read, ReadRefused, Refused, Side};
 use std::fmt::Debug;
 
 /// What differs, in words.
@@ -104,57 +104,6 @@ fn append(old: &[u8], new: &[u8], length: usize, area: &mut Area) -> Result<(), 
         same("number, place, which and yes in C", append_in_c(old, new, area.lent(length)), right)
     };
     outcome.and(area.settle(length))
-}
-
-fn feeding(idx: u64, array: [u8; ROOM], chunk: &[u8]) -> Result<(), Differs> {
-    let right = feed(idx, &array, chunk);
-    let mut state = Accumulator { array, idx };
-    let (fed, rest) = state.feed(chunk);
-    let (ours, message, len) = match fed {
-        Fed::Consumed => (20, [0; ROOM], 0),
-        Fed::OverFull => (21, [0; ROOM], 0),
-        Fed::BadFrame => (22, [0; ROOM], 0),
-        Fed::Frame { message, len } => (23, message, len),
-        Fed::BadState => (24, [0; ROOM], 0),
-    };
-    let mut padded = [0; ROOM];
-    padded[..right.message.len()].copy_from_slice(&right.message);
-    same("number and idx", (ours, state.idx), (right.no, right.idx))?;
-    same("rest", rest, right.rest)?;
-    same("message", (len, message), (right.message.len(), padded))?;
-    same("array", state.array, right.array)?;
-    let (mut array_in_c, mut message_in_c) = (array, lent_bytes(ROOM));
-    let told = [right.idx, right.message.len() as u64, (chunk.len() - right.rest.len()) as u64];
-    let ours = feed_in_c(idx, &mut array_in_c, chunk, &mut message_in_c);
-    same("number, idx, length and rest in C", ours, (right.no.into(), told))?;
-    same("array in C", array_in_c, right.array)?;
-    same("message in C", &message_in_c[..], &padded)?;
-    other_lengths(idx, array, chunk)
-}
-
-/// Slices of another length than the room's are 24, and nothing changes.
-fn other_lengths(idx: u64, array: [u8; ROOM], chunk: &[u8]) -> Result<(), Differs> {
-    let other = [0, 256, ROOM - 1, ROOM + 1][chunk.len() % 4];
-    for (array, message) in [(array.to_vec(), lent_bytes(other)), (lent_bytes(other), lent_bytes(ROOM))] {
-        let (mut array_in_c, mut message_in_c) = (array.clone(), message.clone());
-        let ours = feed_in_c(idx, &mut array_in_c, chunk, &mut message_in_c);
-        same("number, idx, length and rest by another length", ours, (24, [idx, 0, 0]))?;
-        same("slices of another length", (array_in_c, message_in_c), (array, message))?;
-    }
-    Ok(())
-}
-
-/// The number, idx, the message's length and where the rest begins, as the header has them.
-fn feed_in_c(idx: u64, array: &mut [u8], chunk: &[u8], message: &mut [u8]) -> (u64, [u64; 3]) {
-    let mut told = [idx, u64::MAX, u64::MAX];
-    let [idx, len, rest_from] = &mut told;
-    let (array_len, message_len) = (array.len(), message.len());
-    let (array, message) = (array.as_mut_ptr(), message.as_mut_ptr());
-    // SAFETY: each slice is lent with its own length; the numbers are ours.
-    let number = unsafe {
-        reystavem_feed(array, array_len, chunk.as_ptr(), chunk.len(), message, message_len, idx, len, rest_from)
-    };
-    (number, told)
 }
 
 /// The number, and the three that the header has besides. The bindings hide some of them.
@@ -276,17 +225,6 @@ extern "C" {
         which: *mut u64,
         yes: *mut u64,
     ) -> u64;
-    fn reystavem_feed(
-        array: *mut u8,
-        array_len: usize,
-        chunk: *const u8,
-        chunk_len: usize,
-        message: *mut u8,
-        message_len: usize,
-        idx: *mut u64,
-        len: *mut u64,
-        rest_from: *mut u64,
-    ) -> u64;
     fn reystavem_take(
         kind: u64,
         message: *const u8,
@@ -356,7 +294,11 @@ fn parsed(line: &str, area: &mut Area) -> Result<(&'static str, Result<(), Diffe
         }
         ["F", idx, array, chunk] => {
             let array = unhex(array)?.try_into().map_err(|_| "the array isn't of the room's length")?;
-            ("frames", feeding(number(idx)?, array, &unhex(chunk)?))
+            ("frames", feeding::both_ways(number(idx)?, &array, &unhex(chunk)?))
+        }
+        ["G", idx, waiting, array, chunk] => {
+            let array = unhex(array)?.try_into().map_err(|_| "the array isn't of the room's length")?;
+            feeding::by_default(number(idx)?, number(waiting)? != 0, &array, &unhex(chunk)?)
         }
         ["E", message, out] => sending::sending(&unhex(message)?, number(out)? as usize),
         ["T", kind, message, place] => ("taking", take(number(kind)?, &unhex(message)?, number(place)? as usize)),

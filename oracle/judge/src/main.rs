@@ -8,16 +8,19 @@
 //!   gen SEED COUNT compare | judge   comparisons alone
 //!   gen SEED COUNT batch | judge     night batches alone
 //!   gen SEED COUNT compact | judge   their compaction alone
-//!   gen SEED COUNT frames | judge    feeds alone, of long frames too
+//!   gen SEED COUNT frames | judge    feeds alone, of long frames too, by both ways
+//!   gen SEED COUNT waits | judge     feeds by default, to states that wait and to others
 //!   gen SEED COUNT send | judge      messages sent as frames, and fed again
 //!   judge short                      every message of up to two bytes, for each leaf kind and small tables
 //!   judge large                      batches at the edges of their 32-bit fields
+//!   judge streams SEED COUNT         whole streams of frames, cut anywhere
 //!
 //! Prints how many requests of each kind were compared, and each difference; exits with 1 if there was one.
 
 mod area;
 mod batches;
 mod calls;
+mod feeding;
 mod large;
 mod sending;
 mod short;
@@ -67,12 +70,18 @@ impl Tally {
 }
 
 fn main() {
-    let tally = match std::env::args().nth(1).as_deref() {
-        None => lines(),
-        Some("short") => short::run(),
-        Some("large") => large::run(),
-        Some(_) => {
-            eprintln!("usage: gen SEED COUNT | judge, judge short, or judge large");
+    let args: Vec<String> = std::env::args().skip(1).collect();
+    let asked: Vec<&str> = args.iter().map(String::as_str).collect();
+    let tally = match asked[..] {
+        [] => lines(),
+        ["short"] => short::run(),
+        ["large"] => large::run(),
+        ["streams", seed, count] => {
+            let [seed, count] = [seed, count].map(|a| a.parse().expect("SEED and COUNT, both decimal"));
+            feeding::streams(seed, count)
+        }
+        _ => {
+            eprintln!("usage: gen SEED COUNT | judge, judge short, judge large, or judge streams SEED COUNT");
             std::process::exit(2)
         }
     };

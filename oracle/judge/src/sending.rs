@@ -37,7 +37,7 @@ pub fn sending(message: &[u8], out_len: usize) -> (&'static str, Result<(), Diff
 fn fed_again(message: &[u8], frame: &[u8]) -> Result<(), Differs> {
     let seed = message.iter().fold(message.len(), |sum, &byte| sum.wrapping_mul(31).wrapping_add(byte.into()));
     for size in [frame.len(), 1 + seed % frame.len(), 1 + seed % 17] {
-        let mut accumulator = Accumulator { array: [seed as u8; ROOM], idx: 0 };
+        let mut accumulator = Accumulator { array: [seed as u8; ROOM], idx: 0, waiting: false };
         let mut chunks = frame.chunks(size).peekable();
         while let Some(chunk) = chunks.next() {
             let (fed, rest) = accumulator.feed(chunk);

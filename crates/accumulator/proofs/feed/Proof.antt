@@ -8,15 +8,15 @@ use Rattle.accumulator.proofs.feed.Tie as tie
 zeros-requires : tie.Need-zeros-requires
 zeros-requires c κs = search needs
 
-slice-aggregate-feed-cleared : tie.Need-slice-aggregate-feed-cleared
-slice-aggregate-feed-cleared c = search needs
+slice-aggregate-feed-marked : tie.Need-slice-aggregate-feed-marked
+slice-aggregate-feed-marked c = search needs
 
-slice-aggregate-feed-cleared-2 : tie.Need-slice-aggregate-feed-cleared-2
-slice-aggregate-feed-cleared-2 c = search needs
+slice-aggregate-feed-marked-2 : tie.Need-slice-aggregate-feed-marked-2
+slice-aggregate-feed-marked-2 c = search needs
 
-feed-cleared-requires : tie.Need-feed-cleared-requires
+feed-marked-requires : tie.Need-feed-marked-requires
 unfolding room
-feed-cleared-requires c κs = (search needs, search needs)
+feed-marked-requires c κs = (search needs, search needs)
 
 returns : tie.Need-returns
 returns c = search needs
@@ -26,7 +26,7 @@ feed-spec =
     tie.close
     (tie.spec
     zeros-requires
-    slice-aggregate-feed-cleared
-    slice-aggregate-feed-cleared-2
-    feed-cleared-requires
+    slice-aggregate-feed-marked
+    slice-aggregate-feed-marked-2
+    feed-marked-requires
     returns)

@@ -4,8 +4,8 @@ use mathlib.Core.Path.{_∙_}
 use denote.Ref.{now}
 use lib.ListN.{length-take}
 use Rattle.wire.specs.Frames.{room}
-use Rattle.accumulator.proofs.Search.{first}
-use Rattle.accumulator.proofs.Decoding.{cleared, zeros-long}
+use Rattle.decoder.proofs.Search.{first}
+use Rattle.decoder.proofs.Decoding.{cleared, zeros-long}
 use Rattle.accumulator.proofs.Feeding.{end-over, end-bad, end-frame}
 use native.Mathlib.Omega.{arith}
 use borrow.Author.Needs.{needs}

@@ -3,8 +3,8 @@
 use denote.Ref.{now}
 use lib.ListN.{length}
 use Rattle.wire.specs.Frames.{room}
-use Rattle.accumulator.proofs.Decoding.{cleared}
-use Rattle.accumulator.proofs.Feeding.{array-unfit, message-unfit, lent-fit}
+use Rattle.decoder.proofs.Decoding.{cleared}
+use Rattle.accumulator.proofs.Feeding.{lent-array, lent-message, lent-is}
 use native.Mathlib.Omega.{arith}
 use borrow.Author.Needs.{needs}
 use Rattle.accumulator.proofs.feed_lent.Statement.{statement}
@@ -17,7 +17,7 @@ returns : tie.Need-returns
 unfolding room
 returns c =
     let a = c .before .before .before .before .before .args in
-    rw (c .no-message .ensures) (array-unfit (now (a .array)) (a .idx) (now (a .chunk)) (now (a .message)) (λ e. omega arith))
+    rw (c .no-message .ensures) (lent-array (now (a .array)) (now (a .message)) (a .idx) (now (a .chunk)) (a .waiting) (λ e. omega arith))
 
 no-message-requires-2 : tie.Need-no-message-requires-2
 no-message-requires-2 c κs = search needs
@@ -26,14 +26,14 @@ returns-2 : tie.Need-returns-2
 unfolding room
 returns-2 c =
     let a = c .before .before .before .before .before .before .args in
-    rw (c .no-message2 .ensures) (message-unfit (now (a .array)) (a .idx) (now (a .chunk)) (now (a .message)) (omega arith) (λ e. omega arith))
+    rw (c .no-message2 .ensures) (lent-message (now (a .array)) (now (a .message)) (a .idx) (now (a .chunk)) (a .waiting) (omega arith) (λ e. omega arith))
 
 clear-requires : tie.Need-clear-requires
 clear-requires c κs = search needs
 
-feed-cleared-requires : tie.Need-feed-cleared-requires
+feed-marked-requires : tie.Need-feed-marked-requires
 unfolding room
-feed-cleared-requires c κs =
+feed-marked-requires c κs =
     (omega arith, cleared (length (now (c .before .before .before .before .before .before .before .before .before .before .before .args .message))) (c .before .before .before .before .clear .ensures) (omega arith))
 
 same-length : tie.Need-same-length
@@ -46,7 +46,7 @@ returns-3 : tie.Need-returns-3
 unfolding room
 returns-3 c =
     let a = c .before .before .before .before .before .before .before .before .before .before .before .before .before .before .before .before .args in
-    lent-fit (now (a .array)) (a .idx) (now (a .chunk)) (now (a .message)) (omega arith) (omega arith) (c .before .before .before .before .feed-cleared .ensures)
+    rw (lent-is (now (a .array)) (now (a .message)) (a .idx) (now (a .chunk)) (a .waiting) (omega arith) (omega arith)) (c .before .before .before .before .feed-marked .ensures)
 
 pub feed-lent-spec : {M : Type 1} → statement M
 feed-lent-spec =
@@ -57,7 +57,7 @@ feed-lent-spec =
     no-message-requires-2
     returns-2
     clear-requires
-    feed-cleared-requires
+    feed-marked-requires
     same-length
     same-length-2
     returns-3)

@@ -1,13 +1,19 @@
 -- `exports::reystavem_feed` meets its contract.
 -- Assumes nothing.
 use mathlib.Core.Path.{ap, _∙_}
-use borrow.Author.Needs.{needs}
 use Rattle.wire.specs.Answers.{feedNumber}
+use borrow.Author.Needs.{needs}
 use Rattle.exports.proofs.reystavem_feed.Statement.{statement}
 use Rattle.exports.proofs.reystavem_feed.Tie as tie
 
+is-waiting-requires : tie.Need-is-waiting-requires
+is-waiting-requires c κs = search needs
+
 feed-lent-requires : tie.Need-feed-lent-requires
 feed-lent-requires c κs = search needs
+
+mark-after-requires : tie.Need-mark-after-requires
+mark-after-requires c κs = search needs
 
 feed-requires : tie.Need-feed-requires
 feed-requires c κs = search needs
@@ -20,9 +26,18 @@ same-length-2 c = search needs
 
 returns : tie.Need-returns
 returns c =
-    let f = c .before .before .before .before .before .feed-lent .ensures in
-    record { number = c .feed .ensures ∙ ap feedNumber (f .answer); idx = f .idx; len = f .len; within = f .within; rest = f .rest; array = f .array; message = f .message }
+    let f = rw (c .before .before .before .before .before .before .before .before .before .before .before .is-waiting .ensures) at (c .before .before .before .before .before .before .before .feed-lent .ensures) in
+    let s = f .step in
+    record { number = c .feed .ensures ∙ ap feedNumber (s .answer); idx = s .idx; waiting = c .before .mark-after .ensures ∙ rw (s .answer, f .waiting); len = s .len; within = s .within; rest = s .rest; array = s .array; message = s .message }
 
 pub reystavem-feed-spec : {M : Type 1} → statement M
 reystavem-feed-spec =
-    tie.close (tie.spec feed-lent-requires feed-requires same-length same-length-2 returns)
+    tie.close
+    (tie.spec
+    is-waiting-requires
+    feed-lent-requires
+    mark-after-requires
+    feed-requires
+    same-length
+    same-length-2
+    returns)

@@ -5,8 +5,9 @@ use Prim.Native.Nat.{_-_}
 use native.Mathlib.Omega.{arith}
 use lib.ListN.{length}
 use borrow.Author.Needs.{needs}
-use Rattle.utf8.specs.Scan.{Same, After}
-use Rattle.utf8.proofs.Scan.{here, on, single, all-read}
+use Rattle.singles.specs.Passed.{Same}
+use Rattle.utf8.specs.Scan.{After}
+use Rattle.singles.proofs.Passed.{here, on, single, all-read}
 use Rattle.utf8.proofs.is_rest.Statement.{statement}
 use Rattle.utf8.proofs.is_rest.Tie as tie
 

@@ -1,38 +1,49 @@
--- `shelf::frames::show` is safe and ends: less is left of the stream with each chunk.
+-- `shelf::frames::show` is safe and ends: with every turn, fewer places are left for the stream's bytes.
 -- Assumes nothing.
-use Prim.Native.Nat.{_-_, _≤_}
+use mathlib.Core.Path.{_≡_}
+use Prim.Native.Nat.{_+_, _-_, _^_, _≤_, _<_}
 use lib.ListN.{length}
+use Rattle.io.specs.Counts.{Counts}
 use Rattle.wire.specs.Frames.{room}
 use borrow.Author.Needs.{needs}
 use Rattle.shelf.proofs.frames.show.Statement.{statement}
 use Rattle.shelf.proofs.frames.show.Tie as tie
 
 abbrev Inv-loop : tie.InvT-loop
-Inv-loop stream state₀ at₀ t6 state at = state .idx ≤ room
+Inv-loop fd path chunk₀ stream₀ got₀ chunk stream got = (stream .state .idx ≤ room) × (stream .over ≤ stream .place) × Counts got chunk × (stream .place + got < 2 ^ 64) × (4096 ≡ length chunk)
 
 abbrev μ-loop : tie.MeasureT-loop
-μ-loop stream state₀ at₀ t6 state at = length stream - at
+μ-loop fd path chunk₀ stream₀ got₀ chunk stream got = 2 ^ 64 - stream .place
+
+buffer-requires : tie.Need-buffer-requires Inv-loop μ-loop
+buffer-requires c κs = search needs
 
 new-requires : tie.Need-new-requires Inv-loop μ-loop
 new-requires c κs = search needs
 
+slice-aggregate-read-some : tie.Need-slice-aggregate-read-some Inv-loop μ-loop
+slice-aggregate-read-some c = search needs
+
+read-some-requires : tie.Need-read-some-requires Inv-loop μ-loop
+read-some-requires c κs = search needs
+
 loop-holds : tie.Need-loop-holds Inv-loop μ-loop
 loop-holds c = search needs
 
-cut-requires : tie.Need-cut-requires Inv-loop μ-loop
-cut-requires c κs = search needs
+array-share-prefix-chunk : tie.Need-array-share-prefix-chunk Inv-loop μ-loop
+array-share-prefix-chunk c = search needs
 
-sub-feed-all : tie.Need-sub-feed-all Inv-loop μ-loop
-sub-feed-all c = search needs
-
-part-feed-all-start : tie.Need-part-feed-all-start Inv-loop μ-loop
-part-feed-all-start c = search needs
-
-part-feed-all-end : tie.Need-part-feed-all-end Inv-loop μ-loop
-part-feed-all-end c = search needs
+slice-aggregate-feed-all : tie.Need-slice-aggregate-feed-all Inv-loop μ-loop
+slice-aggregate-feed-all c = search needs
 
 feed-all-requires : tie.Need-feed-all-requires Inv-loop μ-loop
 feed-all-requires c κs = search needs
+
+slice-aggregate-read-some-2 : tie.Need-slice-aggregate-read-some-2 Inv-loop μ-loop
+slice-aggregate-read-some-2 c = search needs
+
+read-some-requires-2 : tie.Need-read-some-requires-2 Inv-loop μ-loop
+read-some-requires-2 c κs = search needs
 
 loop-less : tie.Need-loop-less Inv-loop μ-loop
 loop-less c = search needs
@@ -40,17 +51,11 @@ loop-less c = search needs
 loop-again : tie.Need-loop-again Inv-loop μ-loop
 loop-again c = search needs
 
-slice-aggregate-say-with : tie.Need-slice-aggregate-say-with Inv-loop μ-loop
-slice-aggregate-say-with c = search needs
-
-say-with-requires : tie.Need-say-with-requires Inv-loop μ-loop
-say-with-requires c κs = search needs
+say-end-requires : tie.Need-say-end-requires Inv-loop μ-loop
+say-end-requires c κs = search needs
 
 returns : tie.Need-returns Inv-loop μ-loop
 returns c = search needs
-
-returns-2 : tie.Need-returns-2 Inv-loop μ-loop
-returns-2 c = search needs
 
 pub show-spec : {M : Type 1} → statement M
 show-spec =
@@ -58,16 +63,17 @@ show-spec =
     (tie.spec
     Inv-loop
     μ-loop
+    buffer-requires
     new-requires
+    slice-aggregate-read-some
+    read-some-requires
     loop-holds
-    cut-requires
-    sub-feed-all
-    part-feed-all-start
-    part-feed-all-end
+    array-share-prefix-chunk
+    slice-aggregate-feed-all
     feed-all-requires
+    slice-aggregate-read-some-2
+    read-some-requires-2
     loop-less
     loop-again
-    slice-aggregate-say-with
-    say-with-requires
-    returns
-    returns-2)
+    say-end-requires
+    returns)

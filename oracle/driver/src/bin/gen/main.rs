@@ -3,7 +3,8 @@
 //! `gen SEED COUNT strict` prints strict reads alone; more than a third of their answers are 16.
 //! `gen SEED COUNT find` prints finds alone, `gen SEED COUNT compare` comparisons, `gen SEED COUNT batch` the three
 //! questions about night batches, `gen SEED COUNT compact` their compaction, `gen SEED COUNT frames` feeds, of long
-//! frames too, and `gen SEED COUNT send` messages to be sent as frames.
+//! frames too, `gen SEED COUNT waits` feeds by default to states that wait and to others, and `gen SEED COUNT send`
+//! messages to be sent as frames.
 
 mod batches;
 mod edges;
@@ -15,6 +16,7 @@ mod paths;
 mod rounds;
 mod sending;
 mod tables;
+mod waits;
 
 use oracle_driver::append::AREA;
 use oracle_driver::proto::{hex, words_text};
@@ -33,9 +35,10 @@ fn main() {
         [seed, count, "batch"] => (seed, count, Stream::Batch),
         [seed, count, "compact"] => (seed, count, Stream::Compact),
         [seed, count, "frames"] => (seed, count, Stream::Frames),
+        [seed, count, "waits"] => (seed, count, Stream::Waits),
         [seed, count, "send"] => (seed, count, Stream::Send),
         _ => {
-            eprintln!("usage: gen SEED COUNT [strict|find|compare|batch|compact|frames|send]");
+            eprintln!("usage: gen SEED COUNT [strict|find|compare|batch|compact|frames|waits|send]");
             std::process::exit(2)
         }
     };
@@ -63,6 +66,8 @@ enum Stream {
     /// Every batch that is checked is compacted instead, and nothing else is asked.
     Compact,
     Frames,
+    /// Every feed is one by default, to a state that waits and to the same that doesn't.
+    Waits,
     Send,
 }
 
@@ -117,6 +122,12 @@ impl Gen {
         self.line('A', format_args!("{} {} {area:x}", hex(old), hex(new)))
     }
     fn feed(&mut self, idx: u64, array: &[u8], chunk: &[u8]) -> Go {
+        if self.stream == Stream::Waits {
+            for waiting in [0, 1] {
+                self.line('G', format_args!("{idx:x} {waiting} {} {}", hex(array), hex(chunk)))?;
+            }
+            return Ok(());
+        }
         self.line('F', format_args!("{idx:x} {} {}", hex(array), hex(chunk)))
     }
     fn take(&mut self, kind: u8, message: &[u8], place: u64) -> Go {
@@ -175,6 +186,10 @@ impl Gen {
             Stream::Compare => self.pairs_at_the_edge()?,
             Stream::Batch | Stream::Compact => self.batches_at_the_edge()?,
             Stream::Frames => self.frames_at_the_edge()?,
+            Stream::Waits => {
+                self.waits_at_the_edge()?;
+                self.frames_at_the_edge()?;
+            }
             Stream::Send => self.sends_at_the_edge()?,
         }
         self.rng = Rng(seed);
@@ -187,6 +202,7 @@ impl Gen {
                 Stream::Batch => self.batch_round()?,
                 Stream::Compact => self.compact_round()?,
                 Stream::Frames => self.frame_round()?,
+                Stream::Waits => self.wait_round()?,
                 Stream::Send => self.send_round()?,
             }
         }

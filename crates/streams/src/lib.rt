@@ -1,0 +1,1 @@
+// What is promised of a stream that is fed to the accumulator; no code.

@@ -1,4 +1,4 @@
--- `accumulator::clear` meets its contract: the first i bytes are zeros.
+-- `decoder::clear` meets its contract: the first i bytes are zeros.
 -- Assumes nothing.
 use mathlib.Core.Path.{_≡_, refl, _∙_}
 use mathlib.Core.List.{_++_, append-nil}

@@ -1,4 +1,4 @@
--- `accumulator::decode` meets its contract: group by group, what is made and what is left make the message.
+-- `decoder::decode` meets its contract: group by group, what is made and what is left make the message.
 -- Assumes nothing.
 use Prim.Native.Nat.{_-_}
 use native.Mathlib.Nat.{le-add-right}

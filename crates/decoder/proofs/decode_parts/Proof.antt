@@ -1,4 +1,4 @@
--- `accumulator::decode_parts` meets its contract: a frame in one part is decoded as it is; a zero in front makes the frame bad, and else the parts are joined and decoded.
+-- `decoder::decode_parts` meets its contract: a frame in one part is decoded as it is; a zero in front makes the frame bad, and else the parts are joined and decoded.
 -- Assumes nothing.
 use mathlib.Core.Path.{_≡_, sym, _∙_}
 use mathlib.Core.List.{_++_}

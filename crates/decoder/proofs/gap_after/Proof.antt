@@ -1,4 +1,4 @@
--- `accumulator::gap_after` meets its contract: the code is tested as the definition tests it.
+-- `decoder::gap_after` meets its contract: the code is tested as the definition tests it.
 -- Assumes nothing.
 use native.Mathlib.Omega.{arith}
 use Rattle.decoder.proofs.Decoding.{gap-full, gap-other}

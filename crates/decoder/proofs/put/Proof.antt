@@ -1,4 +1,4 @@
--- `accumulator::put` meets its contract: the part's first i bytes are pasted into the array.
+-- `decoder::put` meets its contract: the part's first i bytes are pasted into the array.
 -- Assumes nothing.
 use mathlib.Core.Path.{_≡_, refl, _∙_}
 use Prim.Native.Nat.{_-_, _≤_}

@@ -1,4 +1,4 @@
--- `accumulator::zeros` meets its contract: the empty message's zeros are the whole room.
+-- `decoder::zeros` meets its contract: the empty message's zeros are the whole room.
 -- Assumes nothing.
 use Rattle.wire.specs.Frames.{padded, room}
 use borrow.Author.Needs.{needs}

@@ -1,4 +1,4 @@
--- `utf8::after_ascii` meets its contract: the loop's invariant is that what is to be said of the rest stays.
+-- `singles::after_ascii` meets its contract: the loop's invariant is that what is to be said of the rest stays.
 -- Assumes nothing.
 use Prim.Native.Nat.{_-_}
 use lib.ListN.{length}

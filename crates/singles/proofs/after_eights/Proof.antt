@@ -1,4 +1,4 @@
--- `utf8::after_eights` meets its contract: the loop's invariant is that what is to be said of the rest stays.
+-- `singles::after_eights` meets its contract: the loop's invariant is that what is to be said of the rest stays.
 -- Assumes nothing.
 use mathlib.Core.Path.{refl}
 use lib.ListN.{length}

@@ -1,4 +1,4 @@
--- `utf8::after_long` meets its contract: what is left of it stands among its last eight bytes.
+-- `singles::after_long` meets its contract: what is left of it stands among its last eight bytes.
 -- Assumes nothing.
 use native.Mathlib.Omega.{arith}
 use Prim.Native.Nat.{_-_}

@@ -1,4 +1,4 @@
--- `utf8::after_short` meets its contract: its first four bytes and its last four are all of them.
+-- `singles::after_short` meets its contract: its first four bytes and its last four are all of them.
 -- Assumes nothing.
 use native.Mathlib.Omega.{arith}
 use borrow.Author.Needs.{needs}

@@ -1,4 +1,4 @@
--- `utf8::eight_single` meets its contract: two numbers of four bytes are the number of eight.
+-- `singles::eight_single` meets its contract: two numbers of four bytes are the number of eight.
 -- Assumes nothing.
 use mathlib.Core.Path.{ap}
 use Prim.Native.Nat.{ℕ}

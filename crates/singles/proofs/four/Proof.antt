@@ -1,4 +1,4 @@
--- `utf8::four` meets its contract: four digits in base 256 are the number of their list.
+-- `singles::four` meets its contract: four digits in base 256 are the number of their list.
 -- Assumes nothing.
 use native.Mathlib.Omega.{arith}
 use Prim.Native.Nat.{_+_}

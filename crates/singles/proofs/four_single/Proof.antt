@@ -1,4 +1,4 @@
--- `utf8::four_single` meets its contract.
+-- `singles::four_single` meets its contract.
 -- Assumes nothing.
 use mathlib.Core.Path.{ap}
 use Prim.Native.Nat.{ℕ}

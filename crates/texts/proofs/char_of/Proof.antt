@@ -1,4 +1,4 @@
--- `utf8::char_of` meets its contract: each test is one of the definition's, in its order.
+-- `texts::char_of` meets its contract: each test is one of the definition's, in its order.
 -- Assumes nothing.
 use mathlib.Core.Path.{sym, _∙_}
 use native.Mathlib.Omega.{arith}

@@ -1,4 +1,4 @@
--- `utf8::char_size` meets its contract: the ranges are the definition's.
+-- `texts::char_size` meets its contract: the ranges are the definition's.
 -- Assumes nothing.
 use native.Mathlib.Omega.{arith}
 use lib.ListN.{length}

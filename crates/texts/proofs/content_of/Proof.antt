@@ -1,4 +1,4 @@
--- `utf8::content_of` meets its contract: each test is one of the definition's, in its order.
+-- `texts::content_of` meets its contract: each test is one of the definition's, in its order.
 -- Assumes nothing.
 use mathlib.Core.Path.{sym, _∙_}
 use native.Mathlib.Nat.{zero-add}

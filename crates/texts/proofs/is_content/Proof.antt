@@ -1,4 +1,4 @@
--- `utf8::is_content` meets its contract.
+-- `texts::is_content` meets its contract.
 -- Assumes nothing.
 use borrow.Author.Needs.{needs}
 use Rattle.wire.specs.Reading.{isContent}

@@ -1,4 +1,4 @@
--- `utf8::is_shortest` meets its contract: the choice is the code's.
+-- `texts::is_shortest` meets its contract: the choice is the code's.
 -- Assumes nothing.
 use borrow.Author.Needs.{needs}
 use Rattle.wire.specs.Tests.{both}

@@ -1,4 +1,4 @@
--- `utf8::take_char` meets its contract: behind the count stands a char's bytes.
+-- `texts::take_char` meets its contract: behind the count stands a char's bytes.
 -- Assumes nothing.
 use mathlib.Core.Path.{_∙_}
 use native.Mathlib.Omega.{arith}

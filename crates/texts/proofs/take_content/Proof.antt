@@ -1,4 +1,4 @@
--- `utf8::take_content` meets its contract: behind the count stands the content.
+-- `texts::take_content` meets its contract: behind the count stands the content.
 -- Assumes nothing.
 use mathlib.Core.Path.{_∙_}
 use native.Mathlib.Omega.{arith}

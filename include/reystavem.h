@@ -55,6 +55,22 @@ uint64_t reystavem_read_strict(const uint8_t *table, size_t table_len,
                                uint64_t *store, size_t store_words,
                                uint64_t *place, uint64_t *count);
 
+/* As reystavem_read, with a lent list of open items in the place of calls of itself: four words each, of
+ * which it wants room for 256. A shorter list is 22 at place 0, before all others, with nothing changed
+ * and *count 0; on every other answer its first 1,024 words come back zero, and later ones are as before. */
+uint64_t reystavem_read_open(const uint8_t *table, size_t table_len,
+                             const uint8_t *message, size_t message_len,
+                             uint64_t *store, size_t store_words,
+                             uint64_t *open, size_t open_words,
+                             uint64_t *place, uint64_t *count);
+
+/* The same, as reystavem_read_strict. */
+uint64_t reystavem_read_open_strict(const uint8_t *table, size_t table_len,
+                                    const uint8_t *message, size_t message_len,
+                                    uint64_t *store, size_t store_words,
+                                    uint64_t *open, size_t open_words,
+                                    uint64_t *place, uint64_t *count);
+
 /* Writes a value list, three words an entry, whose texts and bytes stand in the pool; an entry's third
  * word isn't looked at. *place: bytes written, or the place of the refusal. On a refusal the output is
  * unchanged, on 0 only the bytes written changed. */

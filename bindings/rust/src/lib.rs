@@ -36,6 +36,30 @@ mod ffi {
             place: *mut u64,
             count: *mut u64,
         ) -> u64;
+        pub fn reystavem_read_open(
+            table: *const u8,
+            table_len: usize,
+            message: *const u8,
+            message_len: usize,
+            store: *mut u64,
+            store_words: usize,
+            open: *mut u64,
+            open_words: usize,
+            place: *mut u64,
+            count: *mut u64,
+        ) -> u64;
+        pub fn reystavem_read_open_strict(
+            table: *const u8,
+            table_len: usize,
+            message: *const u8,
+            message_len: usize,
+            store: *mut u64,
+            store_words: usize,
+            open: *mut u64,
+            open_words: usize,
+            place: *mut u64,
+            count: *mut u64,
+        ) -> u64;
         pub fn reystavem_write(
             table: *const u8,
             table_len: usize,
@@ -205,6 +229,8 @@ pub enum Why {
     Batch = 18,
     /// The batch has no message of such a store and product.
     Key = 19,
+    /// The list of open items is shorter than `OPEN`; reading with such a list only.
+    Open = 22,
     /// The work area is shorter than `AREA`.
     Area = 25,
 }
@@ -231,6 +257,7 @@ impl Why {
             17 => Why::Fields,
             18 => Why::Batch,
             19 => Why::Key,
+            22 => Why::Open,
             25 => Why::Area,
             _ => unreachable!("the library's contract has no other number"),
         }
@@ -312,6 +339,72 @@ pub fn read_strict<'m>(table: &[u8], message: &'m [u8], store: &mut [u64]) -> Re
     read_by(ffi::reystavem_read_strict, table, message, store)
 }
 
+/// The words of a list of open items: four for each of 256, as many as any table and message want.
+pub const OPEN: usize = 1_024;
+
+/// Reads as `read` does, with its open items in a lent list instead of on the stack, of which it takes little. A list of
+/// fewer than `OPEN` words is refused, and nothing changes; else its first `OPEN` words come back zero, whatever they held.
+#[inline]
+pub fn read_open<'m>(
+    table: &[u8],
+    message: &'m [u8],
+    store: &mut [u64],
+    open: &mut [u64],
+) -> Result<Read<'m>, ReadRefused> {
+    read_open_by(ffi::reystavem_read_open, table, message, store, open)
+}
+
+/// The same, as `read_strict` does.
+#[inline]
+pub fn read_open_strict<'m>(
+    table: &[u8],
+    message: &'m [u8],
+    store: &mut [u64],
+    open: &mut [u64],
+) -> Result<Read<'m>, ReadRefused> {
+    read_open_by(ffi::reystavem_read_open_strict, table, message, store, open)
+}
+
+type OpenReader = unsafe extern "C" fn(
+    table: *const u8,
+    table_len: usize,
+    message: *const u8,
+    message_len: usize,
+    store: *mut u64,
+    store_words: usize,
+    open: *mut u64,
+    open_words: usize,
+    place: *mut u64,
+    count: *mut u64,
+) -> u64;
+
+#[inline]
+fn read_open_by<'m>(
+    reader: OpenReader,
+    table: &[u8],
+    message: &'m [u8],
+    store: &mut [u64],
+    open: &mut [u64],
+) -> Result<Read<'m>, ReadRefused> {
+    let (mut place, mut count) = (0, 0);
+    // SAFETY: each slice is lent with its own length; `store` and `open` are borrowed for us alone.
+    let number = unsafe {
+        reader(
+            table.as_ptr(),
+            table.len(),
+            message.as_ptr(),
+            message.len(),
+            store.as_mut_ptr(),
+            store.len(),
+            open.as_mut_ptr(),
+            open.len(),
+            &mut place,
+            &mut count,
+        )
+    };
+    told(message, number, place, count)
+}
+
 type Reader = unsafe extern "C" fn(
     table: *const u8,
     table_len: usize,
@@ -339,6 +432,12 @@ fn read_by<'m>(reader: Reader, table: &[u8], message: &'m [u8], store: &mut [u64
             &mut count,
         )
     };
+    told(message, number, place, count)
+}
+
+/// What a reader's numbers say of the message.
+#[inline]
+fn told(message: &[u8], number: u64, place: u64, count: u64) -> Result<Read<'_>, ReadRefused> {
     let count = count as usize;
     match number {
         0 => Ok(Read {

@@ -5,4 +5,5 @@ pub mod Rows
 pub mod Messages
 pub mod Batch
 pub mod Compact
+pub mod Listed
 pub mod Cases

@@ -66,3 +66,17 @@ pub enum BatchFound {
     Part { from: usize, len: usize },
     Refused { why: Fault },
 }
+
+// What a reading with a lent list of open items answers: what a reading does, or that the list is too short.
+pub enum OpenAnswer {
+    Done {
+        place: usize,
+        count: usize,
+    },
+    Refused {
+        why: Refusal,
+        place: usize,
+        count: usize,
+    },
+    ShortList,
+}

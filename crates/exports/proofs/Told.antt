@@ -21,6 +21,9 @@ use Rattle.wire.specs.declared.TakeAnswer.the-variants.{Done as Taken, Refused 
 use Rattle.wire.specs.Reading.{Run, Outcome, reached, refused}
 use Rattle.wire.specs.Answers.{sideNumber, yesNumber, refusalNumber, numbered, done, checkSays, readSays, writeSays, takeSays, askSays, readAnswer, placeAfter, Form, asks}
 use Rattle.laws.specs.Answered.{Reads, Writes, Asks}
+use Rattle.desk.specs.declared.OpenAnswer.{OpenAnswer}
+use Rattle.desk.specs.declared.OpenAnswer.the-variants.{Done as OpenDone, Refused as NotOpened, ShortList}
+use Rattle.desk.specs.Listed.{openSays, openCount, ReadsListed}
 use Rattle.desk.specs.declared.FindAnswer.{FindAnswer}
 use Rattle.desk.specs.declared.FindAnswer.the-variants.{Found as AtPath, NoItem, Absent, Refused as NotFound}
 use Rattle.desk.specs.Path.{findSays}
@@ -41,7 +44,7 @@ use Rattle.desk.specs.declared.BatchFound.the-variants.{Part, Refused as NoPart
 use Rattle.desk.specs.Batch.{Or, faultSays, writtenSays, checkedSays, foundSays, fromOf, lenOf}
 use Rattle.batches.specs.Search.{Searched}
 use Rattle.batch.specs.Writing as batch
-use Rattle.exports.specs.Calls.{Told, countOf, Counted, Read, Wrote, whichOf, yesOf, Asked, firstOf, secondOf, atOf, Took, Found, Compared, BatchWrote, LastFound}
+use Rattle.exports.specs.Calls.{Told, countOf, Counted, Read, CountedOpen, ReadOpen, Wrote, whichOf, yesOf, Asked, firstOf, secondOf, atOf, Took, Found, Compared, BatchWrote, LastFound}
 
 -- ---- the check
 
@@ -75,6 +78,29 @@ read-told {w} h c = record {
   told = rw (h .answered) at (c .told);
   count = rw (h .answered) at (c .count) ∙ count-of (w .ends) (length (w .made));
   stored = h .stored;
+}
+
+-- ---- reading with a list of open items
+
+pub open-done : {a : OpenAnswer} {p n : ℕ} → a ≡ OpenDone p n → CountedOpen a 0 p n
+unfolding openSays openCount done
+open-done g = rw g (record { told = record { number = refl; place = refl }; count = refl })
+
+pub open-refused : {a : OpenAnswer} {why : Refusal} {p n m : ℕ} → a ≡ NotOpened why p n → m ≡ refusalNumber why → CountedOpen a m p n
+unfolding openSays openCount numbered
+open-refused g k = rw g (record { told = record { number = k; place = refl }; count = refl })
+
+pub open-short : {a : OpenAnswer} → a ≡ ShortList → CountedOpen a 22 0 0
+unfolding openSays openCount
+open-short g = rw g (record { told = record { number = refl; place = refl }; count = refl })
+
+-- such an answer, as it was told
+pub open-told : {w : Run} {store list left handed : List ℕ} {a : OpenAnswer} → ReadsListed w store list a left handed → {r p n : ℕ} → CountedOpen a r p n → ReadOpen w store list r p n left handed
+open-told h c = record {
+  told = rw (h .answered) at (c .told);
+  count = rw (h .answered) at (c .count);
+  stored = h .stored;
+  handed = h .cleared;
 }
 
 -- ---- writing

@@ -9,7 +9,7 @@ use lib.ListN.{length, length-drop}
 use Rattle.desk.specs.declared.BatchFound.{BatchFound}
 use Rattle.desk.specs.Batch.{foundSays, fromOf, lenOf}
 use Rattle.batches.proofs.Search.{searched-is-last}
-use Rattle.exports.specs.Unique.{OneTold, OneRead, OneWrote, OneAsked, OneFedCall, OneTook, OneFound, OneCompared, OneBatchWrote, OneLast}
+use Rattle.exports.specs.Unique.{OneTold, OneRead, OneReadOpen, OneWrote, OneAsked, OneFedCall, OneTook, OneFound, OneCompared, OneBatchWrote, OneLast}
 
 -- two that equal a third
 alike : {A : Type 0} {a x y : A} → x ≡ a → y ≡ a → x ≡ y
@@ -24,6 +24,15 @@ one-read w store x y h k = λ i. (
   alike (h .told .place) (k .told .place) i,
   alike (h .count) (k .count) i,
   alike (h .stored) (k .stored) i,
+)
+
+pub one-read-open : OneReadOpen
+one-read-open w store list x y h k = λ i. (
+  alike (h .told .number) (k .told .number) i,
+  alike (h .told .place) (k .told .place) i,
+  alike (h .count) (k .count) i,
+  alike (h .stored) (k .stored) i,
+  alike (h .handed) (k .handed) i,
 )
 
 pub one-wrote : OneWrote

@@ -18,6 +18,9 @@ use Rattle.wire.specs.declared.TakeAnswer.the-variants.{Done as Taken, Refused 
 use Rattle.wire.specs.Reading.{Run}
 use Rattle.wire.specs.Answers.{sideNumber, yesNumber, feedNumber, Numbered, readSays, writeSays, takeSays, askSays, storeWith, readAnswer, placeAfter, Form, writeAnswer, outWith, areaAfter}
 use Rattle.accumulator.specs.Feeding.{Lent, MarkedLent}
+use Rattle.desk.specs.declared.OpenAnswer.{OpenAnswer}
+use Rattle.desk.specs.Listed.{openSays, openCount, listedAnswer, listedStore}
+use Rattle.desk.specs.Listed as listed
 use Rattle.desk.specs.declared.FindAnswer.{FindAnswer}
 use Rattle.desk.specs.Path.{findSays}
 use Rattle.desk.specs.Path as path
@@ -47,6 +50,17 @@ pub record Read (w : Run) (store : List ℕ) (r p n : ℕ) (store′ : List ℕ)
   pub told : Told (readSays (readAnswer (w .ends) (length (w .made)))) r p
   pub count : n ≡ length (w .made)
   pub stored : store′ ≡ storeWith (w .made) store
+
+-- the same of a reading with a list of open items
+pub record CountedOpen (a : OpenAnswer) (r p n : ℕ) : Type 0 where
+  pub told : Told (openSays a) r p
+  pub count : n ≡ openCount a
+
+pub record ReadOpen (w : Run) (store list : List ℕ) (r p n : ℕ) (store′ list′ : List ℕ) : Type 0 where
+  pub told : Told (openSays (listedAnswer (length list) w)) r p
+  pub count : n ≡ openCount (listedAnswer (length list) w)
+  pub stored : store′ ≡ listedStore (length list) w store
+  pub handed : list′ ≡ listed.listAfter list
 
 pub record Wrote (f : Form) (out : List ℕ) (r p : ℕ) (out′ : List ℕ) : Type 0 where
   pub told : Told (writeSays (writeAnswer f)) r p

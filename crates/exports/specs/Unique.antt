@@ -14,13 +14,18 @@ use Rattle.desk.specs.declared.FindAnswer.{FindAnswer}
 use Rattle.desk.specs.Differ.{Answered}
 use Rattle.desk.specs.declared.BatchChecked.the-variants.{Good}
 use Rattle.desk.specs.Batch.{Or, batchCheck}
-use Rattle.exports.specs.Calls.{Told, Read, Wrote, Asked, Fed, Took, Found, Compared, BatchWrote, LastFound}
+use Rattle.exports.specs.Calls.{Told, Read, ReadOpen, Wrote, Asked, Fed, Took, Found, Compared, BatchWrote, LastFound}
 
 abbrev pub OneTold : Type 0
 OneTold = (n : Numbered) → Unique (λ (x : ℕ × ℕ). Told n (x .0) (x .1))
 
 abbrev pub OneRead : Type 0
 OneRead = (w : Run) (store : List ℕ) → Unique (λ (x : ℕ × ℕ × ℕ × List ℕ). Read w store (x .0) (x .1) (x .2) (x .3))
+
+abbrev pub OneReadOpen : Type 0
+OneReadOpen =
+    (w : Run) (store list : List ℕ)
+    → Unique (λ (x : ℕ × ℕ × ℕ × List ℕ × List ℕ). ReadOpen w store list (x .0) (x .1) (x .2) (x .3) (x .4))
 
 abbrev pub OneWrote : Type 0
 OneWrote = (f : Form) (out : List ℕ) → Unique (λ (x : ℕ × ℕ × List ℕ). Wrote f out (x .0) (x .1) (x .2))

@@ -6,6 +6,7 @@ use desk::CompareAnswer;
 use desk::Fault;
 use desk::FindAnswer;
 use desk::Key;
+use desk::OpenAnswer;
 use wire::AskAnswer;
 use wire::Checked;
 use wire::FeedAnswer;
@@ -22,7 +23,7 @@ ghost use Rattle.desk.specs.Path.{finds};
 ghost use Rattle.desk.specs.Differ.{compares};
 ghost use Rattle.desk.specs.Batch.{faultSays, checkedSays, batchCheck, writes as batchWrites};
 ghost use Rattle.desk.specs.Compact.{compacts};
-ghost use Rattle.exports.specs.Calls.{Told, Counted, Read, Wrote, Asked, waits, markAfter, markOf, Fed, Took, Found, Compared, BatchWrote, LastFound};
+ghost use Rattle.exports.specs.Calls.{Told, Counted, CountedOpen, Read, ReadOpen, Wrote, Asked, waits, markAfter, markOf, Fed, Took, Found, Compared, BatchWrote, LastFound};
 
 #[no_mangle]
 pub extern "C" fn reystavem_check(table: &[u8], place: &mut u64) -> u64
@@ -92,6 +93,66 @@ pub extern "C" fn reystavem_read_strict(
 {
     let got = reader::read_strict(table, message, store);
     tell_read(got, place, count)
+}
+
+// The number of such a reading's answer with a list of open items, in the same way.
+fn tell_open(got: OpenAnswer, place: &mut u64, count: &mut u64) -> u64
+    ensures { λ r. ⌜ CountedOpen got r (now (place .exit)) (now (count .exit)) ⌝ }
+{
+    match got {
+        OpenAnswer::Done {
+            place: end,
+            count: made,
+        } => {
+            *place = end as u64;
+            *count = made as u64;
+            0
+        }
+        OpenAnswer::Refused {
+            why,
+            place: at,
+            count: made,
+        } => {
+            *place = at as u64;
+            *count = made as u64;
+            numbers::refusal(why)
+        }
+        OpenAnswer::ShortList => {
+            *place = 0;
+            *count = 0;
+            numbers::SHORT_OPEN
+        }
+    }
+}
+
+#[no_mangle]
+pub extern "C" fn reystavem_read_open(
+    table: &[u8],
+    message: &[u8],
+    store: &mut [u64],
+    list: &mut [u64],
+    place: &mut u64,
+    count: &mut u64,
+) -> u64
+    ensures { λ r. ⌜ ReadOpen (reads (now (table .entry)) (now (message .entry)) (now (store .entry))) (now (store .entry)) (now (list .entry)) r (now (place .exit)) (now (count .exit)) (now (store .exit)) (now (list .exit)) ⌝ }
+{
+    let got = open::read(table, message, store, list);
+    tell_open(got, place, count)
+}
+
+#[no_mangle]
+pub extern "C" fn reystavem_read_open_strict(
+    table: &[u8],
+    message: &[u8],
+    store: &mut [u64],
+    list: &mut [u64],
+    place: &mut u64,
+    count: &mut u64,
+) -> u64
+    ensures { λ r. ⌜ ReadOpen (readsStrict (now (table .entry)) (now (message .entry)) (now (store .entry))) (now (store .entry)) (now (list .entry)) r (now (place .exit)) (now (count .exit)) (now (store .exit)) (now (list .exit)) ⌝ }
+{
+    let got = open::read_strict(table, message, store, list);
+    tell_open(got, place, count)
 }
 
 #[no_mangle]

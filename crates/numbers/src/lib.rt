@@ -28,6 +28,9 @@ pub fn refusal(why: Refusal) -> u64
 // The append question's work area is too short.
 pub const SHORT_AREA: u64 = 25;
 
+// The list of open items that a reading was lent is too short.
+pub const SHORT_OPEN: u64 = 22;
+
 // A path leads to no item that can be found; an option on it is absent.
 pub const NO_ITEM: u64 = 13;
 

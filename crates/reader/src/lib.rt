@@ -22,12 +22,12 @@ ghost use Rattle.reader.specs.Steps.{Gives, answerBehind, Begins};
 // ---- rounds
 
 // A round's front: the entries that are made then, or no room for its entry.
-enum Begun {
+pub enum Begun {
     At { made: usize },
     Full,
 }
 
-fn begin(headed: bool, place: usize, room: usize, store: &mut [u64], made: usize) -> Begun
+pub fn begin(headed: bool, place: usize, room: usize, store: &mut [u64], made: usize) -> Begun
     ensures { λ r. ⌜ Begins room place headed (now (store .entry)) made r (now (store .exit)) ⌝ }
 {
     if headed {

@@ -4,6 +4,7 @@ use crate::nights;
 use accumulator::Step;
 use desk::CompareAnswer;
 use desk::FindAnswer;
+use desk::OpenAnswer;
 use recorded::field;
 use recorded::memory;
 use wire::AskAnswer;
@@ -12,6 +13,7 @@ use wire::TakeAnswer;
 use wire::WriteAnswer;
 ghost use mathlib.Core.Path.{_≡_};
 ghost use Rattle.wire.specs.Answers.{readSays, writeSays, askSays, takeSays};
+ghost use Rattle.desk.specs.Listed.{openSays, openCount};
 ghost use Rattle.desk.specs.Path.{findSays, firstOf, secondOf};
 ghost use Rattle.desk.specs.Differ.{compareSays};
 ghost use Rattle.replay.specs.Told.{Tells, made, which, pairsOrWhich};
@@ -28,6 +30,9 @@ const BEFORE: u64 = 11936128518282651045;
 
 pub const BEFORE_BYTE: u8 = 165;
 
+// The words of a list of open items.
+const LIST: usize = 1024;
+
 // How many bytes are lent behind the work area.
 const BEHIND: usize = 4096;
 
@@ -42,6 +47,7 @@ pub enum Kind {
     Find,
     Compare,
     Batch,
+    Compact,
 }
 
 // The numbers that an answer of any kind begins with: document 01's number, and two more.
@@ -64,6 +70,7 @@ pub fn fields(kind: Kind) -> usize {
         Kind::Find => 7,
         Kind::Compare => 8,
         Kind::Batch => 11,
+        Kind::Compact => 7,
     }
 }
 
@@ -122,10 +129,91 @@ fn read_over(strict: bool, record: &[u8], store: &mut [u64], then: &mut [u64]) -
     check::same(reader::rest(message, answer), field::part(record, 7))
 }
 
+fn open_told(answer: OpenAnswer) -> Told
+    ensures { λ r. ⌜ Tells (openSays answer) (openCount answer) r ⌝ }
+{
+    match answer {
+        OpenAnswer::Done { place, count } => Told {
+            number: 0,
+            second: place as u64,
+            third: count as u64,
+        },
+        OpenAnswer::Refused { why, place, count } => Told {
+            number: numbers::refusal(why),
+            second: place as u64,
+            third: count as u64,
+        },
+        OpenAnswer::ShortList => Told {
+            number: numbers::SHORT_OPEN,
+            second: 0,
+            third: 0,
+        },
+    }
+}
+
+fn open_by(
+    strict: bool,
+    table: &[u8],
+    message: &[u8],
+    store: &mut [u64],
+    list: &mut [u64],
+) -> OpenAnswer {
+    if strict {
+        return open::read_strict(table, message, store, list);
+    }
+    open::read(table, message, store, list)
+}
+
+// The same by the reader with a list of open items.
+fn open_over(
+    strict: bool,
+    record: &[u8],
+    store: &mut [u64],
+    then: &mut [u64],
+    list: &mut [u64],
+) -> bool {
+    let size = field::number_at(record, 5) as usize;
+    if store.len() < size {
+        return false;
+    }
+    let message = field::part(record, 4);
+    let answer = open_by(
+        strict,
+        field::part(record, 3),
+        message,
+        &mut store[..size],
+        list,
+    );
+    if !tells(record, open_told(answer)) {
+        return false;
+    }
+    memory::put_words(then, field::part(record, 6));
+    if !memory::same_words(store, then) {
+        return false;
+    }
+    check::same(open::rest(message, answer), field::part(record, 7))
+}
+
+// By that reader, whose list must come back zero.
+fn open_agrees(strict: bool, record: &[u8]) -> bool {
+    let mut store = [BEFORE; WORDS];
+    let mut then = [BEFORE; WORDS];
+    let mut list = [BEFORE; LIST];
+    if !open_over(strict, record, &mut store, &mut then, &mut list) {
+        return false;
+    }
+    let zeros = [0u64; LIST];
+    memory::same_words(&list, &zeros)
+}
+
+// By both readers.
 fn read_agrees(strict: bool, record: &[u8]) -> bool {
     let mut store = [BEFORE; WORDS];
     let mut then = [BEFORE; WORDS];
-    read_over(strict, record, &mut store, &mut then)
+    if !read_over(strict, record, &mut store, &mut then) {
+        return false;
+    }
+    open_agrees(strict, record)
 }
 
 // ---- writing
@@ -525,5 +613,6 @@ pub fn agrees(kind: Kind, record: &[u8]) -> bool {
         Kind::Find => find_agrees(record),
         Kind::Compare => compare_agrees(record),
         Kind::Batch => nights::agrees(record),
+        Kind::Compact => nights::compact_agrees(record),
     }
 }

@@ -97,4 +97,5 @@ fn main() {
     replay(Kind::Find, b"finding");
     replay(Kind::Compare, b"comparing");
     replay(Kind::Batch, b"batching");
+    replay(Kind::Compact, b"compacting");
 }

@@ -152,3 +152,30 @@ pub fn agrees(record: &[u8]) -> bool {
     }
     last_agrees(record)
 }
+
+// ---- compaction
+
+// Whether compacting into an output gives what the record has; `then` is another output like it.
+fn compact_over(record: &[u8], out: &mut [u8], then: &mut [u8]) -> bool {
+    let size = field::number_at(record, 5) as usize;
+    if out.len() < size {
+        return false;
+    }
+    let answer = batch::compact(
+        field::part(record, 3),
+        field::part(record, 4),
+        &mut out[..size],
+    );
+    if !answers::tells(record, written_told(answer)) {
+        return false;
+    }
+    memory::put(then, 0, field::part(record, 6));
+    check::same(out, then)
+}
+
+// Whether a compaction answers and leaves what the record has.
+pub fn compact_agrees(record: &[u8]) -> bool {
+    let mut out = [answers::BEFORE_BYTE; answers::OUT];
+    let mut then = [answers::BEFORE_BYTE; answers::OUT];
+    compact_over(record, &mut out, &mut then)
+}

@@ -2,6 +2,7 @@
 use crate::area::Area;
 use crate::batches;
 use crate::feeding;
+use crate::opening;
 use crate::sending;
 use oracle_driver::append::{appends, Which};
 use oracle_driver::compare::{compare, Of};
@@ -26,7 +27,7 @@ pub fn numbered(refused: Refused) -> (u8, usize) {
 }
 
 /// What lent memory holds before a call, hardly twice the same.
-fn lent(length: usize) -> Vec<u64> {
+pub fn lent(length: usize) -> Vec<u64> {
     (0..length as u64).map(|i| !i.wrapping_mul(0x9e37_79b9_7f4a_7c15)).collect()
 }
 
@@ -41,32 +42,46 @@ pub fn check(table: &[u8]) -> Result<(), Differs> {
     same("check", ours, right)
 }
 
-/// Into a store of so many words.
+/// Into a store of so many words, by both readers.
 pub fn read(table: &[u8], message: &[u8], words: usize) -> Result<(), Differs> {
-    reading(reystavem::read, read::read(table, message, words), table, message, words)
+    let right = read::read(table, message, words);
+    reading(reystavem::read, &right, table, message, words)?;
+    opening::reading(reystavem::read_open, &right, table, message, words)
 }
 
 /// The same, strictly; and whether the answer is 16.
 pub fn read_strict(table: &[u8], message: &[u8], words: usize) -> (bool, Result<(), Differs>) {
     let right = strict::read(table, message, words);
-    (right.no == 16, reading(reystavem::read_strict, right, table, message, words))
+    let outcome = reading(reystavem::read_strict, &right, table, message, words)
+        .and_then(|()| opening::reading(reystavem::read_open_strict, &right, table, message, words));
+    (right.no == 16, outcome)
 }
 
 type Reader = for<'m> fn(&[u8], &'m [u8], &mut [u64]) -> Result<Read<'m>, ReadRefused>;
 
-fn reading(ours: Reader, right: ReadAnswer, table: &[u8], message: &[u8], words: usize) -> Result<(), Differs> {
-    let before = lent(words);
-    let mut store = before.clone();
-    let (ours, count, rest) = match ours(table, message, &mut store) {
+fn reading(ours: Reader, right: &ReadAnswer, table: &[u8], message: &[u8], words: usize) -> Result<(), Differs> {
+    let mut store = lent(words);
+    let ours = ours(table, message, &mut store);
+    read_right(ours, &store, right, message)
+}
+
+/// What a reader answers, and the store after it.
+pub fn read_right(
+    ours: Result<Read, ReadRefused>,
+    store: &[u64],
+    right: &ReadAnswer,
+    message: &[u8],
+) -> Result<(), Differs> {
+    let (ours, count, rest) = match ours {
         Ok(read) => ((0, message.len() - read.rest.len()), read.count, read.rest),
         Err(refused) => (numbered(refused.refused), refused.count, &[][..]),
     };
     same("number and place", ours, (right.no, right.place))?;
     same("count", count, right.entries.len())?;
     same("rest", rest, right.rest)?;
-    let mut after = before;
+    let mut after = lent(store.len());
     after[..WORDS * count].copy_from_slice(right.entries.as_flattened());
-    same("store", store, after)
+    same("store", store, &after)
 }
 
 pub fn write(table: &[u8], words: &[u64], pool: &[u8], out_len: usize) -> Result<(), Differs> {

@@ -22,6 +22,7 @@ mod batches;
 mod calls;
 mod feeding;
 mod large;
+mod opening;
 mod sending;
 mod short;
 

@@ -3,6 +3,7 @@
 //!
 //!   speed leaves     varints and texts
 //!   speed messages   reading and writing
+//!   speed open       reading with a lent list of open items, beside the first reader
 //!   speed paths      one field by its path, beside a full read
 //!   speed pairs      two messages side by side, beside a read of one
 //!   speed batch      night batches of a million messages, beside plain Rust
@@ -16,6 +17,7 @@ mod batch;
 mod frames;
 mod leaves;
 mod messages;
+mod open;
 mod pairs;
 mod paths;
 mod question;
@@ -29,6 +31,7 @@ fn main() {
     for (name, report) in [
         ("leaves", leaves::report as fn()),
         ("messages", messages::report),
+        ("open", open::report),
         ("paths", paths::report),
         ("pairs", pairs::report),
         ("batch", batch::report),

@@ -14,7 +14,7 @@ pub struct Stock {
     pub count: i32,
 }
 
-fn stock(i: u64) -> Stock {
+pub fn stock(i: u64) -> Stock {
     Stock { store: 300 + i as u32, product: 5 + i * 1_000_003, count: -2 - i as i32 }
 }
 

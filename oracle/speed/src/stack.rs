@@ -1,7 +1,7 @@
 //! How deep the stack gets under the longest chain, 256 nodes: it is painted below this frame, and after the call the
 //! deepest byte that is another colour is looked for.
 use oracle_driver::table::{Node, Table, ENUM, MAP, OPTION, SECOND, SEQ, STRUCT, U8};
-use reystavem::{AREA, WORDS};
+use reystavem::{AREA, OPEN, WORDS};
 use std::hint::black_box;
 use std::thread;
 
@@ -42,8 +42,8 @@ fn chain(kind: u8) -> Table {
 }
 
 pub fn report() {
-    println!("| Stack under a chain of 256 | check, bytes | reading | strict reading | writing | append question |");
-    println!("|---|---|---|---|---|---|");
+    println!("| Stack under a chain of 256 | check, bytes | reading | strict reading | reading with a list | writing | append question |");
+    println!("|---|---|---|---|---|---|---|");
     for (name, kind, lead) in [("option", OPTION, 1), ("sequence", SEQ, 1), ("struct", STRUCT, 0), ("enum", ENUM, 0)] {
         let file = chain(kind).file_in(SECOND);
         let message = vec![lead; 256];
@@ -51,12 +51,14 @@ pub fn report() {
         let read = reystavem::read(&file, &message, &mut store).expect("a good message");
         assert_eq!(read.count, 256);
         let words = store.clone();
-        let (mut strict_store, mut out, mut area) = (store.clone(), vec![0; 256], vec![0; AREA]);
+        let (mut strict_store, mut open_store, mut list) = (store.clone(), store.clone(), vec![0; OPEN]);
+        let (mut out, mut area) = (vec![0; 256], vec![0; AREA]);
         let check = depth(|| assert!(reystavem::check(&file).is_ok()));
         let reading = depth(|| assert!(reystavem::read(&file, &message, &mut store).is_ok()));
         let strict = depth(|| assert!(reystavem::read_strict(&file, &message, &mut strict_store).is_ok()));
+        let listed = depth(|| assert!(reystavem::read_open(&file, &message, &mut open_store, &mut list).is_ok()));
         let writing = depth(|| assert!(reystavem::write(&file, &words, &[], &mut out).is_ok()));
         let question = depth(|| assert_eq!(reystavem::appends(&file, &file, &mut area), Ok(true)));
-        println!("| {name} | {check} | {reading} | {strict} | {writing} | {question} |");
+        println!("| {name} | {check} | {reading} | {strict} | {listed} | {writing} | {question} |");
     }
 }

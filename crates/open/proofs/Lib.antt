@@ -1,0 +1,10 @@
+pub mod Words
+pub mod Weights
+pub mod Chains
+pub mod Pending
+pub mod Leading
+pub mod Holding
+pub mod Opening
+pub mod Turning
+pub mod Working
+pub mod Promised

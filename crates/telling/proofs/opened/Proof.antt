@@ -1,9 +1,9 @@
--- `exports::tell_open` meets its contract, case by case.
+-- `telling::opened` meets its contract, case by case.
 -- Assumes nothing.
 use borrow.Author.Needs.{needs}
-use Rattle.exports.proofs.Told.{open-done, open-refused, open-short}
-use Rattle.exports.proofs.tell_open.Statement.{statement}
-use Rattle.exports.proofs.tell_open.Tie as tie
+use Rattle.telling.proofs.Told.{open-done, open-refused, open-short}
+use Rattle.telling.proofs.opened.Statement.{statement}
+use Rattle.telling.proofs.opened.Tie as tie
 
 enum-known-got : tie.Need-enum-known-got
 enum-known-got c = search needs
@@ -26,8 +26,8 @@ returns-2 c = open-refused (c .before .before .got2 .given .1) (c .refusal .ensu
 returns-3 : tie.Need-returns-3
 returns-3 c = open-short (c .enum-told .given .1)
 
-pub tell-open-spec : {M : Type 1} → statement M
-tell-open-spec =
+pub opened-spec : {M : Type 1} → statement M
+opened-spec =
     tie.close
     (tie.spec
     enum-known-got

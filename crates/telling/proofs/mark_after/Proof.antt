@@ -1,9 +1,9 @@
--- `exports::mark_after` meets its contract, answer by answer.
+-- `telling::mark_after` meets its contract, answer by answer.
 -- Assumes nothing.
-use Rattle.exports.proofs.Marks.{left-consumed, left-over, left-unread, left-frame, left-bad}
+use Rattle.telling.proofs.Marks.{left-consumed, left-over, left-unread, left-frame, left-bad}
 use borrow.Author.Needs.{needs}
-use Rattle.exports.proofs.mark_after.Statement.{statement}
-use Rattle.exports.proofs.mark_after.Tie as tie
+use Rattle.telling.proofs.mark_after.Statement.{statement}
+use Rattle.telling.proofs.mark_after.Tie as tie
 
 enum-told : tie.Need-enum-told
 enum-told c = search needs

@@ -1,8 +1,8 @@
--- `exports::is_waiting` meets its contract.
+-- `telling::is_waiting` meets its contract.
 -- Assumes nothing.
-use Rattle.exports.proofs.Marks.{none-waits, some-waits}
-use Rattle.exports.proofs.is_waiting.Statement.{statement}
-use Rattle.exports.proofs.is_waiting.Tie as tie
+use Rattle.telling.proofs.Marks.{none-waits, some-waits}
+use Rattle.telling.proofs.is_waiting.Statement.{statement}
+use Rattle.telling.proofs.is_waiting.Tie as tie
 
 returns : tie.Need-returns
 returns c = none-waits _ (c .if1 .taken)

@@ -8,7 +8,7 @@ use Rattle.wire.specs.Tests.{pick}
 use Rattle.wire.specs.Answers.{yesNumber}
 use Rattle.wire.specs.declared.FeedAnswer.{FeedAnswer}
 use Rattle.wire.specs.declared.FeedAnswer.the-variants.{Consumed, OverFull, BadFrame, Frame, BadState}
-use Rattle.exports.specs.Calls.{waits, markAfter}
+use Rattle.telling.specs.Marks.{waits, markAfter}
 
 pub none-waits : (mark : ℕ) → mark ≡ 0 → false ≡ waits mark
 unfolding waits pick

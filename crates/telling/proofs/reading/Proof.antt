@@ -1,9 +1,9 @@
--- `exports::tell_read` meets its contract, case by case.
+-- `telling::reading` meets its contract, case by case.
 -- Assumes nothing.
 use borrow.Author.Needs.{needs}
-use Rattle.exports.proofs.Told.{count-done, count-refused}
-use Rattle.exports.proofs.tell_read.Statement.{statement}
-use Rattle.exports.proofs.tell_read.Tie as tie
+use Rattle.telling.proofs.Told.{count-done, count-refused}
+use Rattle.telling.proofs.reading.Statement.{statement}
+use Rattle.telling.proofs.reading.Tie as tie
 
 enum-known-got : tie.Need-enum-known-got
 enum-known-got c = search needs
@@ -20,5 +20,6 @@ returns c = count-done (c .before .got .given .1)
 returns-2 : tie.Need-returns-2
 returns-2 c = count-refused (c .before .before .got2 .given .1) (c .refusal .ensures)
 
-pub tell-read-spec : {M : Type 1} → statement M
-tell-read-spec = tie.close (tie.spec enum-known-got enum-known-got-2 refusal-requires returns returns-2)
+pub reading-spec : {M : Type 1} → statement M
+reading-spec =
+    tie.close (tie.spec enum-known-got enum-known-got-2 refusal-requires returns returns-2)

@@ -17,6 +17,9 @@
  *   18  the batch is bad
  *   19  the batch has no such store and product
  *   20 to 24, a feed's answers: consumed, over-full, bad frame, frame, bad state
+ *   20  of a row's export and import: the table has no rows
+ *   21  of a row's import: the input isn't a row of the table
+ *   22  of a reading with a list of open items: the list is too short
  *   25  the work area is too short
  *
  * A pointer with its length is a lent slice: it must be valid for that length and, where it isn't
@@ -193,6 +196,25 @@ uint64_t reystavem_batch_last(const uint8_t *table, size_t table_len,
 uint64_t reystavem_batch_compact(const uint8_t *table, size_t table_len,
                                  const uint8_t *batch, size_t batch_len,
                                  uint8_t *out, size_t out_len, uint64_t *place);
+
+/* Writes a message as a row of CSV (RFC 4180): its fields in order with commas between them, then CR and LF.
+ * The table's root is a struct of at most 1024 fields, all of kinds 0 to 13 or 20 to 31. Integers stand in
+ * decimal, a bool as 0 or 1, a float as its bits in decimal, a char and a text in quotes with quotes doubled,
+ * bytes in quotes as lower-case hex. *place: bytes written, or the place of the refusal. Refusals: of the
+ * table; 20 at place 0 if it has no such root; the message's own, read as with a store of 16384 entries; 12
+ * at place 0. On a refusal the output is unchanged, on 0 only the bytes written changed. */
+uint64_t reystavem_csv_export(const uint8_t *table, size_t table_len,
+                              const uint8_t *message, size_t message_len,
+                              uint8_t *out, size_t out_len, uint64_t *place);
+
+/* Writes the message of a row, in its shortest form. Only the one spelling is taken that
+ * reystavem_csv_export writes. *place: bytes written, or the place of the refusal. Refusals: of the table;
+ * 20 at place 0; 21 at the first byte where no exported row of that table goes on, at the row's length if it
+ * ends early, at the first byte behind it if more follows; 12 at place 0. On a refusal the output is
+ * unchanged, on 0 only the bytes written changed. */
+uint64_t reystavem_csv_import(const uint8_t *table, size_t table_len,
+                              const uint8_t *row, size_t row_len,
+                              uint8_t *out, size_t out_len, uint64_t *place);
 
 #ifdef __cplusplus
 }

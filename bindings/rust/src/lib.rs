@@ -184,6 +184,24 @@ mod ffi {
             out_len: usize,
             place: *mut u64,
         ) -> u64;
+        pub fn reystavem_csv_export(
+            table: *const u8,
+            table_len: usize,
+            message: *const u8,
+            message_len: usize,
+            out: *mut u8,
+            out_len: usize,
+            place: *mut u64,
+        ) -> u64;
+        pub fn reystavem_csv_import(
+            table: *const u8,
+            table_len: usize,
+            row: *const u8,
+            row_len: usize,
+            out: *mut u8,
+            out_len: usize,
+            place: *mut u64,
+        ) -> u64;
     }
 }
 
@@ -229,6 +247,10 @@ pub enum Why {
     Batch = 18,
     /// The batch has no message of such a store and product.
     Key = 19,
+    /// The table's root isn't a struct whose messages have rows; CSV rows only.
+    Shape = 20,
+    /// The input isn't a row of the table; importing CSV rows only.
+    Row = 21,
     /// The list of open items is shorter than `OPEN`; reading with such a list only.
     Open = 22,
     /// The work area is shorter than `AREA`.
@@ -257,6 +279,8 @@ impl Why {
             17 => Why::Fields,
             18 => Why::Batch,
             19 => Why::Key,
+            20 => Why::Shape,
+            21 => Why::Row,
             22 => Why::Open,
             25 => Why::Area,
             _ => unreachable!("the library's contract has no other number"),
@@ -910,6 +934,76 @@ pub fn batch_compact(table: &[u8], batch: &[u8], out: &mut [u8]) -> Result<usize
             table.len(),
             batch.as_ptr(),
             batch.len(),
+            out.as_mut_ptr(),
+            out.len(),
+            &mut place,
+        )
+    };
+    match number {
+        0 => Ok(place as usize),
+        _ => Err(refused(number, place)),
+    }
+}
+
+/// Writes a message as a row of CSV (RFC 4180): its fields in order with commas between them, then CR and LF. How many
+/// bytes were written.
+///
+/// The table's root is a struct of at most 1,024 fields, all of kinds 0 to 13 or 20 to 31; another table is refused before
+/// the message is looked at. Integers stand in decimal, a bool as 0 or 1, a float as its bits in decimal, a char and a
+/// text in quotes with quotes doubled, bytes in quotes as lower-case hex. The message is read as with a store of 16,384
+/// entries, and a rest behind it doesn't count; that the output is too short comes last. On a refusal it is unchanged.
+///
+/// ```
+/// # let table = reystavem::samples::TABLE_T;
+/// let mut out = [0; 64];
+/// let len = reystavem::csv_export(table, &[0xac, 0x02, 0x05, 0x03], &mut out).unwrap();
+/// assert_eq!(&out[..len], b"300,5,-2\r\n");
+/// ```
+#[inline]
+pub fn csv_export(table: &[u8], message: &[u8], out: &mut [u8]) -> Result<usize, Refused> {
+    csv_by(ffi::reystavem_csv_export, table, message, out)
+}
+
+/// Writes the message of a row, in its shortest form: how many bytes were written.
+///
+/// Only the one spelling is taken that [`csv_export`] writes, so that the row's export is the row again. Any other input is
+/// refused at the first byte where no exported row of the table goes on, at its length if it ends early, at the first byte
+/// behind the row if more follows; before that a table without rows, and last an output that is too short. On a refusal the
+/// output is unchanged.
+///
+/// ```
+/// # let table = reystavem::samples::TABLE_T;
+/// let mut out = [0; 16];
+/// let len = reystavem::csv_import(table, b"300,5,-2\r\n", &mut out).unwrap();
+/// assert_eq!(out[..len], [0xac, 0x02, 0x05, 0x03]);
+/// let refused = reystavem::csv_import(table, b"300,05,-2\r\n", &mut out).unwrap_err();
+/// assert_eq!((refused.why, refused.place), (reystavem::Why::Row, 5));
+/// ```
+#[inline]
+pub fn csv_import(table: &[u8], row: &[u8], out: &mut [u8]) -> Result<usize, Refused> {
+    csv_by(ffi::reystavem_csv_import, table, row, out)
+}
+
+type Csv = unsafe extern "C" fn(
+    table: *const u8,
+    table_len: usize,
+    input: *const u8,
+    input_len: usize,
+    out: *mut u8,
+    out_len: usize,
+    place: *mut u64,
+) -> u64;
+
+#[inline]
+fn csv_by(call: Csv, table: &[u8], input: &[u8], out: &mut [u8]) -> Result<usize, Refused> {
+    let mut place = 0;
+    // SAFETY: each slice is lent with its own length; `out` is borrowed for us alone.
+    let number = unsafe {
+        call(
+            table.as_ptr(),
+            table.len(),
+            input.as_ptr(),
+            input.len(),
             out.as_mut_ptr(),
             out.len(),
             &mut place,

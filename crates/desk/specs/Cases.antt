@@ -4,7 +4,7 @@ use mathlib.Core.Path.{_≡_}
 use mathlib.Core.List.{List, [], _∷_, _++_}
 use mathlib.Core.List as lists
 use Prim.Native.Nat.{ℕ}
-use lib.ListN.{replicate}
+use lib.ListN.{length, replicate}
 use Rattle.wire.specs.Answers.{Numbered}
 use Rattle.wire.specs.Cases.{tableT, tabled, leafTable}
 use Rattle.desk.specs.declared.FindAnswer.{FindAnswer}
@@ -14,6 +14,7 @@ use Rattle.desk.specs.declared.BatchFound.{BatchFound}
 use Rattle.desk.specs.declared.BatchFound.the-variants.{Part as PartFound}
 use Rattle.desk.specs.Differ.{compares, compareAnswer, listAfter, compareSays, whichOf, countOf}
 use Rattle.desk.specs.Compact.{batchCompact, batchCompactOut}
+use Rattle.desk.specs.Csv.{Output, csvAnswer, outAfter, csvSays, csvExport}
 use Rattle.desk.specs.Batch.{batchWrite, batchWriteOut, batchCheck, batchLast, partOf, writtenSays, checkedSays, foundSays, fromOf, lenOf}
 
 -- ---- one item by its path
@@ -249,4 +250,64 @@ compactCases =
     ∷ says (compacting tableT turned (replicate 50 9)) 0 50 turned
     ∷ says (compacting tableT (three ++ (seven 5 4 ++ (threeHundred 7 ++ ending 2 32 0 1))) (replicate 51 9)) 18 0 (replicate 51 9)
     ∷ says (compacting tableT (ending 0 0 0 1) (replicate 12 9)) 0 12 (ending 0 0 0 1)
+    ∷ []
+
+-- ---- CSV rows
+
+pub record Exporting : Type 0 where
+  pub table : List ℕ
+  pub message : List ℕ
+  pub out : List ℕ
+
+-- number and place, and the output afterwards
+pub record Exported : Type 0 where
+  pub number : ℕ
+  pub place : ℕ
+  pub out : List ℕ
+
+pub record ExportCase : Type 0 where
+  pub call : Exporting
+  pub said : Exported
+
+unfoldable pub exporting : (table message out : List ℕ) → (number place : ℕ) → (after : List ℕ) → ExportCase
+exporting table message out number place after =
+    record { call = record { table = table; message = message; out = out }; said = record { number = number; place = place; out = after } }
+
+unfoldable pub exportSaid : Output → (out : List ℕ) → Exported
+exportSaid o out = record { number = csvSays (csvAnswer o) .number; place = csvSays (csvAnswer o) .place; out = outAfter o out }
+
+unfoldable pub exportedOf : Exporting → Exported
+exportedOf c = exportSaid (csvExport (c .table) (c .message) (length (c .out))) (c .out)
+
+abbrev pub ExportsHold : List ExportCase → Type 0
+ExportsHold cs = lists.map (λ (c : ExportCase). exportedOf (c .call)) cs ≡ lists.map (λ (c : ExportCase). c .said) cs
+
+-- a struct of one field of a kind
+unfoldable pub oneField : ℕ → List ℕ
+oneField k = tabled (k ∷ 0 ∷ 0 ∷ 0 ∷ 0 ∷ 0 ∷ 0x12 ∷ 0 ∷ 0 ∷ 0 ∷ 1 ∷ 0 ∷ []) (0 ∷ 0 ∷ []) 2 1
+
+unfoldable pub exportCases : List ExportCase
+exportCases =
+    -- 300, 5 and -2, and the same with a rest; a message that ends; a row that the output has no room for
+    exporting tableT (172 ∷ 2 ∷ 5 ∷ 3 ∷ []) (replicate 12 7) 0 10 ((51 ∷ 48 ∷ 48 ∷ 44 ∷ 53 ∷ 44 ∷ 45 ∷ 50 ∷ 13 ∷ 10 ∷ []) ++ replicate 2 7)
+    ∷ exporting tableT (172 ∷ 2 ∷ 5 ∷ 3 ∷ 9 ∷ []) (replicate 10 7) 0 10 (51 ∷ 48 ∷ 48 ∷ 44 ∷ 53 ∷ 44 ∷ 45 ∷ 50 ∷ 13 ∷ 10 ∷ [])
+    ∷ exporting tableT (172 ∷ 2 ∷ 5 ∷ []) (replicate 12 7) 3 3 (replicate 12 7)
+    ∷ exporting tableT (172 ∷ 2 ∷ 5 ∷ 3 ∷ []) (replicate 9 7) 12 0 (replicate 9 7)
+    -- a quote among others in a text, alone as a char; bytes, some and none
+    ∷ exporting (oneField 12) (4 ∷ 97 ∷ 34 ∷ 195 ∷ 169 ∷ []) (replicate 9 7) 0 9 (34 ∷ 97 ∷ 34 ∷ 34 ∷ 195 ∷ 169 ∷ 34 ∷ 13 ∷ 10 ∷ [])
+    ∷ exporting (oneField 11) (1 ∷ 34 ∷ []) (replicate 6 7) 0 6 (34 ∷ 34 ∷ 34 ∷ 34 ∷ 13 ∷ 10 ∷ [])
+    ∷ exporting (oneField 13) (2 ∷ 10 ∷ 255 ∷ []) (replicate 8 7) 0 8 (34 ∷ 48 ∷ 97 ∷ 102 ∷ 102 ∷ 34 ∷ 13 ∷ 10 ∷ [])
+    ∷ exporting (oneField 13) (0 ∷ []) (replicate 4 7) 0 4 (34 ∷ 34 ∷ 13 ∷ 10 ∷ [])
+    -- the smallest i8, the largest u64, the bits of a NaN; zero and one
+    ∷ exporting (oneField 1) (128 ∷ []) (replicate 6 7) 0 6 (45 ∷ 49 ∷ 50 ∷ 56 ∷ 13 ∷ 10 ∷ [])
+    ∷ exporting (oneField 8) (255 ∷ 255 ∷ 255 ∷ 255 ∷ 255 ∷ 255 ∷ 255 ∷ 255 ∷ 255 ∷ 1 ∷ []) (replicate 22 7) 0 22 (49 ∷ 56 ∷ 52 ∷ 52 ∷ 54 ∷ 55 ∷ 52 ∷ 52 ∷ 48 ∷ 55 ∷ 51 ∷ 55 ∷ 48 ∷ 57 ∷ 53 ∷ 53 ∷ 49 ∷ 54 ∷ 49 ∷ 53 ∷ 13 ∷ 10 ∷ [])
+    ∷ exporting (oneField 9) (1 ∷ 0 ∷ 192 ∷ 255 ∷ []) (replicate 12 7) 0 12 (52 ∷ 50 ∷ 57 ∷ 48 ∷ 55 ∷ 55 ∷ 50 ∷ 57 ∷ 57 ∷ 51 ∷ 13 ∷ 10 ∷ [])
+    ∷ exporting (oneField 31) (0 ∷ 0 ∷ 0 ∷ 0 ∷ 0 ∷ 0 ∷ 0 ∷ 0 ∷ []) (replicate 3 7) 0 3 (48 ∷ 13 ∷ 10 ∷ [])
+    ∷ exporting (oneField 0) (1 ∷ []) (replicate 3 7) 0 3 (49 ∷ 13 ∷ 10 ∷ [])
+    -- no fields; a root that is no struct, an enum of a u8, a struct of an option; no table
+    ∷ exporting (leafTable 18) (9 ∷ []) (replicate 2 7) 0 2 (13 ∷ 10 ∷ [])
+    ∷ exporting (leafTable 5) (7 ∷ []) (replicate 3 7) 20 0 (replicate 3 7)
+    ∷ exporting tableE (0 ∷ 7 ∷ []) (replicate 3 7) 20 0 (replicate 3 7)
+    ∷ exporting tableS (0 ∷ 0 ∷ 0 ∷ 7 ∷ []) (replicate 3 7) 20 0 (replicate 3 7)
+    ∷ exporting (1 ∷ 2 ∷ []) [] (replicate 3 7) 1 0 (replicate 3 7)
     ∷ []

@@ -6,4 +6,5 @@ pub mod Messages
 pub mod Batch
 pub mod Compact
 pub mod Listed
+pub mod Csv
 pub mod Cases

@@ -80,3 +80,12 @@ pub enum OpenAnswer {
     },
     ShortList,
 }
+
+// How an export or an import ends: the bytes written; a refusal of the wire and its place; a table that has no rows; or the place
+// where an input stops being a row.
+pub enum CsvAnswer {
+    Done { place: usize },
+    Refused { why: Refusal, place: usize },
+    Unfit,
+    NoRow { place: usize },
+}

@@ -1,4 +1,3 @@
 -- What the functions' answers come to, over plain values.
 pub mod Told
 pub mod Unique
-pub mod Marks

@@ -14,7 +14,9 @@ use Rattle.desk.specs.declared.FindAnswer.{FindAnswer}
 use Rattle.desk.specs.Differ.{Answered}
 use Rattle.desk.specs.declared.BatchChecked.the-variants.{Good}
 use Rattle.desk.specs.Batch.{Or, batchCheck}
-use Rattle.exports.specs.Calls.{Told, Read, ReadOpen, Wrote, Asked, Fed, Took, Found, Compared, BatchWrote, LastFound}
+use Rattle.desk.specs.Csv.{Output}
+use Rattle.telling.specs.Told.{Told, Took, Found}
+use Rattle.exports.specs.Calls.{Read, ReadOpen, Wrote, Asked, Fed, Compared, BatchWrote, LastFound, CsvWrote, CsvImported}
 
 abbrev pub OneTold : Type 0
 OneTold = (n : Numbered) → Unique (λ (x : ℕ × ℕ). Told n (x .0) (x .1))
@@ -51,3 +53,9 @@ OneBatchWrote = (made : Or (List ℕ)) (out : List ℕ) → Unique (λ (x : ℕ 
 abbrev pub OneLast : Type 0
 OneLast = (table batch : List ℕ) (store product : ℕ) → batchCheck table batch ≡ Good
     → Unique (λ (x : ℕ × ℕ × ℕ × ℕ). LastFound table batch store product (x .0) (x .1) (x .2) (x .3))
+
+abbrev pub OneCsvWrote : Type 0
+OneCsvWrote = (made : Output) (out : List ℕ) → Unique (λ (x : ℕ × ℕ × List ℕ). CsvWrote made out (x .0) (x .1) (x .2))
+
+abbrev pub OneCsvImported : Type 0
+OneCsvImported = (table row out : List ℕ) → Unique (λ (x : ℕ × ℕ × List ℕ). CsvImported table row out (x .0) (x .1) (x .2))

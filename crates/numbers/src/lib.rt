@@ -46,6 +46,11 @@ pub const BAD_BATCH: u64 = 18;
 
 pub const NO_KEY: u64 = 19;
 
+// A table has no rows; an input stops being a row.
+pub const NO_COLUMNS: u64 = 20;
+
+pub const NO_ROW: u64 = 21;
+
 // 0 for the old table, 1 for the new one.
 pub fn side(side: Side) -> u64
     ensures { λ r. ⌜ r ≡ sideNumber side ⌝ }

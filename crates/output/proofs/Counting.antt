@@ -25,7 +25,7 @@ pub cap-large : (n : ℕ) → 2 ^ 64 ≤ n → cap n ≡ 2 ^ 64 - 1
 unfolding cap pick
 cap-large n h = rw (le-ltb n (2 ^ 64) h)
 
-cap-twice : (n m : ℕ) → cap (cap n + m) ≡ cap (n + m)
+pub cap-twice : (n m : ℕ) → cap (cap n + m) ≡ cap (n + m)
 cap-twice n m =
     by-lt n (2 ^ 64) (λ h. rw (cap-small n h))
     (λ h.

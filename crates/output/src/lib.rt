@@ -10,7 +10,7 @@ ghost use Rattle.output.specs.Bytes.{cap, Places, Puts};
 const LARGEST: usize = 0xffff_ffff_ffff_ffff;
 
 // A sum that stops at the largest word. Many entries may name one part of the pool, so lengths can add up to more.
-fn add(used: usize, n: usize) -> usize
+pub fn add(used: usize, n: usize) -> usize
     ensures { λ r. ⌜ r ≡ cap (used + n) ⌝ }
 {
     if LARGEST - used < n {

@@ -6,7 +6,8 @@ use Prim.Native.Nat.{ℕ, _<_, _≤_}
 use lib.Dec.{eqb, ltb}
 use borrow.Author.Tests.{ne-eqb, lt-ltb, le-ltb}
 use Rattle.wire.specs.Tests.{pick}
-use Rattle.readable.specs.Spelling.{hexOf, isHidden, escape}
+use Rattle.desk.specs.Csv.{hexOf}
+use Rattle.readable.specs.Spelling.{isHidden, escape}
 
 -- it is none of the five that a letter or a sign spells
 pub record Unsigned (b : ℕ) : Type 0 where

@@ -2,18 +2,11 @@
 -- Assumes nothing.
 use mathlib.Core.Bool.{Bool, true, false}
 use mathlib.Core.List.{List, [], _∷_, _++_}
-use Prim.Native.Nat.{ℕ, _+_, _-_, _/_, _%_, _^_}
+use Prim.Native.Nat.{ℕ, _-_, _^_}
 use lib.Dec.{eqb, ltb, leb}
 use lib.ListN.{take}
 use Rattle.wire.specs.Tests.{pick, both}
-
--- a hexadecimal digit, in lower case
-unfoldable pub digitOf : ℕ → ℕ
-digitOf x = pick (ltb x 10) (48 + x) (87 + x)
-
--- a byte's two hexadecimal digits
-unfoldable pub hexOf : ℕ → List ℕ
-hexOf b = digitOf (b / 16) ∷ digitOf (b % 16) ∷ []
+use Rattle.desk.specs.Csv.{hexOf}
 
 -- a byte that would not show: below the space, or 127
 unfoldable pub isHidden : ℕ → Bool

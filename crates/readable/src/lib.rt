@@ -4,7 +4,8 @@ ghost use mathlib.Core.List.{[], _∷_};
 ghost use Prim.Native.Nat.{_<_};
 ghost use lib.ListN.{length};
 ghost use lib.Dec.{leb};
-ghost use Rattle.readable.specs.Spelling.{digitOf, hexOf, escape, padded, sizeOf, half};
+ghost use Rattle.desk.specs.Csv.{digitOf, hexOf};
+ghost use Rattle.readable.specs.Spelling.{escape, padded, sizeOf, half};
 
 const HALF: u64 = 0x8000_0000_0000_0000;
 

@@ -1,6 +1,7 @@
 // Asks again what a record asked, and compares the whole of the answer with the record's. HOW.md has
 // the order of a record's parts.
 use crate::nights;
+use crate::rows;
 use accumulator::Step;
 use desk::CompareAnswer;
 use desk::FindAnswer;
@@ -48,6 +49,8 @@ pub enum Kind {
     Compare,
     Batch,
     Compact,
+    Export,
+    Import,
 }
 
 // The numbers that an answer of any kind begins with: document 01's number, and two more.
@@ -71,6 +74,8 @@ pub fn fields(kind: Kind) -> usize {
         Kind::Compare => 8,
         Kind::Batch => 11,
         Kind::Compact => 7,
+        Kind::Export => 7,
+        Kind::Import => 7,
     }
 }
 
@@ -614,5 +619,7 @@ pub fn agrees(kind: Kind, record: &[u8]) -> bool {
         Kind::Compare => compare_agrees(record),
         Kind::Batch => nights::agrees(record),
         Kind::Compact => nights::compact_agrees(record),
+        Kind::Export => rows::agrees(false, record),
+        Kind::Import => rows::agrees(true, record),
     }
 }

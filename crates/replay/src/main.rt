@@ -2,6 +2,7 @@
 // and writes a line for each kind of request. HOW.md says how the lists were made.
 mod answers;
 mod nights;
+mod rows;
 
 use answers::Kind;
 use libc::STDOUT_FILENO;
@@ -98,4 +99,6 @@ fn main() {
     replay(Kind::Compare, b"comparing");
     replay(Kind::Batch, b"batching");
     replay(Kind::Compact, b"compacting");
+    replay(Kind::Export, b"exporting");
+    replay(Kind::Import, b"importing");
 }

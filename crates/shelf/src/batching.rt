@@ -11,16 +11,7 @@ use desk::Key;
 use say::front;
 use say::say;
 use say::say_bytes;
-use say::say_why;
 use say::say_with;
-use wire::Refusal;
-
-// The room for a batch, in bytes.
-const ROOM: usize = 2097152;
-
-fn batch_room() -> [u8; ROOM] {
-    [0; ROOM]
-}
 
 // A command's second word.
 enum Asked {
@@ -61,24 +52,9 @@ pub fn fits(count: usize) -> bool {
     }
 }
 
-// A refusal of the table, of a message or of the output, with its place.
-fn say_refusal(why: Refusal, place: usize) {
-    match why {
-        Refusal::Trailer | Refusal::Record => listing::tree::say_bad(why, place),
-        Refusal::Full => say_with(
-            b"refused: 12, the batch is larger than the room of # bytes\n",
-            ROOM as u64,
-        ),
-        _ => {
-            say(b"refused: ");
-            say_why(why, b", at byte #\n", place);
-        }
-    }
-}
-
 fn say_fault(fault: Fault) {
     match fault {
-        Fault::Wire { why, place } => say_refusal(why, place),
+        Fault::Wire { why, place } => shown::say_refusal(why, place, b"batch", files::LARGEST),
         Fault::Fields => say(b"refused: 17, the store and product fields don't fit the table\n"),
         Fault::Batch => say(b"refused: 18, the batch is bad\n"),
         Fault::Missing => say(b"refused: 19, the batch has no such store and product\n"),
@@ -88,7 +64,7 @@ fn say_fault(fault: Fault) {
 // ---- writing
 
 fn write(table: &[u8], messages: &[u8], store: u64, product: u64) {
-    let mut out = batch_room();
+    let mut out = files::largest_room();
     match batch::write(table, messages, store as usize, product as usize, &mut out) {
         BatchWritten::Done { place } => files::save(7, front(&out, place)),
         BatchWritten::Refused { why } => say_fault(why),
@@ -155,7 +131,7 @@ fn last(table: &[u8], batch: &[u8]) {
 // ---- compaction
 
 fn compact(table: &[u8], batch: &[u8]) {
-    let mut out = batch_room();
+    let mut out = files::largest_room();
     match batch::compact(table, batch, &mut out) {
         BatchWritten::Done { place } => files::save(5, front(&out, place)),
         BatchWritten::Refused { why } => say_fault(why),
@@ -164,7 +140,7 @@ fn compact(table: &[u8], batch: &[u8]) {
 
 // With the table, the batch that the command's word 4 names.
 fn run_on_batch(asked: Asked, table: &[u8]) {
-    let mut room = batch_room();
+    let mut room = files::largest_room();
     let loaded = files::load(4, &mut room);
     let whole = loaded.whole;
     let len = loaded.len;

@@ -25,6 +25,13 @@ pub fn large_room() -> [u8; LARGE]
     [0; LARGE]
 }
 
+// The room for a batch or a row. A message that fits its own room has a row that fits here.
+pub const LARGEST: usize = 2097152;
+
+pub fn largest_room() -> [u8; LARGEST] {
+    [0; LARGEST]
+}
+
 // Whether a file is there whole, and how many bytes it has.
 pub struct Loaded {
     pub whole: bool,

@@ -1,5 +1,6 @@
 // A recorded stream of any length, fed to the accumulator chunk by chunk; and a message as a frame, to be sent.
 use crate::files;
+use crate::shown;
 use accumulator::Accumulator;
 use accumulator::Fed;
 use libc::STDIN_FILENO;
@@ -163,10 +164,9 @@ pub fn run() {
 fn save_frame(message: &[u8]) {
     let mut out = files::large_room();
     match framer::frame(message, &mut out) {
-        WriteAnswer::Refused { why: _, place: _ } => say_with(
-            b"refused: 12, the frame is larger than the room of # bytes\n",
-            files::LARGE as u64,
-        ),
+        WriteAnswer::Refused { why, place } => {
+            shown::say_refusal(why, place, b"frame", files::LARGE)
+        }
         WriteAnswer::Done { place } => {
             files::save(3, front(&out, place));
         }

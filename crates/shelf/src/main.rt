@@ -1,10 +1,11 @@
-// What a planner runs: shelf table, read, bytes, read-strict, find, compare, changes, append, frames, frame, write and batch, each over files. Without such words it says how to use it.
+// What a planner runs: shelf table, read, bytes, read-strict, find, compare, changes, append, frames, frame, export, import, write and batch, each over files. Without such words it says how to use it.
 mod batching;
 mod comparing;
 mod decimal;
 mod files;
 mod finding;
 mod frames;
+mod rows;
 mod shown;
 mod writing;
 
@@ -20,6 +21,8 @@ enum Verb {
     Append,
     Frames,
     Frame,
+    Export,
+    Import,
     Write,
     Batch,
     Unknown,
@@ -37,6 +40,8 @@ fn say_usage() {
         shelf append OLD NEW                does the new table only append to the old one?\n\
         shelf frames [FILE]                 the messages in a recorded stream of frames, of any length; without FILE, from standard input\n\
         shelf frame MESSAGE OUT             writes a message as a frame, to be sent\n\
+        shelf export TABLE MESSAGE          the message as a row of CSV\n\
+        shelf import TABLE ROW OUT          writes the message of such a row\n\
         shelf write TABLE VALUES POOL OUT   writes the message of a value list\n\
         shelf batch write TABLE MESSAGES STORE_FIELD PRODUCT_FIELD OUT   writes a night's batch of messages that stand end to end\n\
         shelf batch check TABLE BATCH       is the batch good? every message and every row\n\
@@ -76,6 +81,12 @@ fn verb_of(word: &[u8]) -> Verb {
     if check::same(word, b"frame") {
         return Verb::Frame;
     }
+    if check::same(word, b"export") {
+        return Verb::Export;
+    }
+    if check::same(word, b"import") {
+        return Verb::Import;
+    }
     if check::same(word, b"write") {
         return Verb::Write;
     }
@@ -90,9 +101,10 @@ fn fits(verb: Verb, count: usize) -> bool {
     match verb {
         Verb::Table => count == 3,
         Verb::Frames => count == 2 || count == 3,
-        Verb::Read | Verb::Bytes | Verb::ReadStrict | Verb::Append | Verb::Frame => count == 4,
+        Verb::Read | Verb::Bytes | Verb::ReadStrict | Verb::Append | Verb::Frame | Verb::Export =>
+            count == 4,
         Verb::Find => 4 <= count,
-        Verb::Compare | Verb::Changes => count == 5,
+        Verb::Compare | Verb::Changes | Verb::Import => count == 5,
         Verb::Write => count == 6,
         Verb::Batch => batching::fits(count),
         Verb::Unknown => false,
@@ -110,7 +122,7 @@ fn run_on_new(old: &[u8]) {
     }
 }
 
-// shelf read, bytes, read-strict or find TABLE MESSAGE, shelf compare or changes TABLE ONE OTHER, or shelf write TABLE VALUES
+// shelf read, bytes, read-strict, find or export TABLE MESSAGE, shelf compare or changes TABLE ONE OTHER, or shelf write TABLE VALUES
 // POOL OUT, with the table.
 fn run_on_file(verb: Verb, table: &[u8]) {
     let mut room = files::large_room();
@@ -125,6 +137,7 @@ fn run_on_file(verb: Verb, table: &[u8]) {
             Verb::Find => finding::find(table, &room[..len]),
             Verb::Compare => comparing::compare_with(table, &room[..len], false),
             Verb::Changes => comparing::compare_with(table, &room[..len], true),
+            Verb::Export => rows::export(table, &room[..len]),
             _ => writing::write_values(table, &room[..len]),
         }
     }
@@ -141,6 +154,7 @@ fn run_on_table(verb: Verb) {
         match verb {
             Verb::Table => listing::tree::show(table),
             Verb::Append => run_on_new(table),
+            Verb::Import => rows::import(table),
             _ => run_on_file(verb, table),
         }
     }

@@ -1,7 +1,26 @@
-// What is shown of a message, and of two tables side by side.
+// What is shown of a message, of two tables side by side, and of a refusal.
 use crate::files;
 use parting::Parting;
 use say::say;
+use say::say_why;
+use say::say_with;
+use wire::Refusal;
+
+// A refusal of the table, of a message or of the room of so many bytes for what is written, with its place.
+pub fn say_refusal(why: Refusal, place: usize, what: &[u8], room: usize) {
+    match why {
+        Refusal::Trailer | Refusal::Record => listing::tree::say_bad(why, place),
+        Refusal::Full => {
+            say(b"refused: 12, the ");
+            say(what);
+            say_with(b" is larger than the room of # bytes\n", room as u64);
+        }
+        _ => {
+            say(b"refused: ");
+            say_why(why, b", at byte #\n", place);
+        }
+    }
+}
 
 // Reads a message by a table, and shows its items' bytes where they are asked for. There is room for 16,384 entries.
 pub fn read(table: &[u8], message: &[u8], bytes: bool) {

@@ -507,6 +507,214 @@ pub fn batch_compact(file: &[u8], batch: &[u8], out_len: usize) -> Result<Vec<u8
     Ok(compacted)
 }
 
+/// The kinds of a row's fields, or 20.
+fn columns(table: &Table) -> Result<Vec<u8>, Refusal> {
+    let root = &table.nodes[table.root];
+    let kinds: Vec<u8> = root.kids.iter().map(|&kid| table.nodes[kid].kind).collect();
+    let is_struct = root.kind == table::STRUCT;
+    if !is_struct || kinds.len() > 1_024 || kinds.iter().any(|&kind| (14..20).contains(&kind)) {
+        return Err(Refusal { no: 20, place: 0 });
+    }
+    Ok(kinds)
+}
+
+/// How many bytes a number of a kind has, and whether it may be below zero.
+fn column(kind: u8) -> (u32, bool) {
+    match kind {
+        table::BOOL => (0, false),
+        table::I8..=table::I64 => (1 << (kind - table::I8), true),
+        table::U8..=table::U64 => (1 << (kind - table::U8), false),
+        table::F32 | table::F64 => (4 << (kind - table::F32), false),
+        _ => (2 << ((kind - 20) % 3), (kind - 20) % 6 < 3),
+    }
+}
+
+fn decimal(mut x: u64, row: &mut Vec<u8>) {
+    let from = row.len();
+    loop {
+        row.insert(from, b'0' + (x % 10) as u8);
+        x /= 10;
+        if x == 0 {
+            return;
+        }
+    }
+}
+
+fn quoted(content: &[u8], row: &mut Vec<u8>) {
+    row.push(b'"');
+    for &b in content {
+        row.push(b);
+        if b == b'"' {
+            row.push(b);
+        }
+    }
+    row.push(b'"');
+}
+
+pub fn csv_export(file: &[u8], message: &[u8], out_len: usize) -> Result<Vec<u8>, Refusal> {
+    let table = Table::parse(file)?;
+    let kinds = columns(&table)?;
+    let ReadAnswer { no, place, entries, .. } = read(file, message, 3 * STORE);
+    if no != 0 {
+        return Err(Refusal { no, place });
+    }
+    let mut row = vec![];
+    for (i, &kind) in kinds.iter().enumerate() {
+        if i > 0 {
+            row.push(b',');
+        }
+        let [w0, w1, _] = entries[i + 1];
+        match kind {
+            table::CHAR => quoted(&encode_char(w0 as u32), &mut row),
+            table::STR => quoted(&message[w0 as usize..(w0 + w1) as usize], &mut row),
+            table::BYTES => {
+                row.push(b'"');
+                for &b in &message[w0 as usize..(w0 + w1) as usize] {
+                    row.extend([b >> 4, b & 15].map(|half| b"0123456789abcdef"[half as usize]));
+                }
+                row.push(b'"');
+            }
+            _ if column(kind).1 && w0 >> 63 == 1 => {
+                row.push(b'-');
+                decimal(w0.wrapping_neg(), &mut row);
+            }
+            _ => decimal(w0, &mut row),
+        }
+    }
+    row.extend(*b"\r\n");
+    if row.len() > out_len {
+        return Err(Refusal { no: 12, place: 0 });
+    }
+    Ok(row)
+}
+
+/// A row that is read byte by byte; where a byte can't stand there, or is missing, is 21.
+struct Cells<'r> {
+    row: &'r [u8],
+    at: usize,
+}
+
+impl Cells<'_> {
+    fn here(&self) -> Option<u8> {
+        self.row.get(self.at).copied()
+    }
+    /// Passes over a byte that fits.
+    fn next(&mut self, fits: impl Fn(u8) -> bool) -> Result<u8, Refusal> {
+        let b = self.here().filter(|&b| fits(b)).ok_or(Refusal { no: 21, place: self.at })?;
+        self.at += 1;
+        Ok(b)
+    }
+    fn digit(&mut self, least: u8) -> Result<u128, Refusal> {
+        Ok(u128::from(self.next(|b| (least..=b'9').contains(&b))? - b'0'))
+    }
+    fn number(&mut self, kind: u8) -> Result<u64, Refusal> {
+        let (len, signed) = column(kind);
+        let below = signed && self.here() == Some(b'-');
+        if below {
+            self.at += 1;
+        }
+        let most = match (len, signed) {
+            (0, _) => 1,
+            (_, false) => (1u128 << (8 * len)) - 1,
+            (_, true) => (1u128 << (8 * len - 1)) - u128::from(!below),
+        };
+        let mut x = 0;
+        let mut first = true;
+        while first || x > 0 && self.here().is_some_and(|b| b.is_ascii_digit()) {
+            let place = self.at;
+            x = 10 * x + self.digit(if first && below { b'1' } else { b'0' })?;
+            if x > most {
+                return Err(Refusal { no: 21, place });
+            }
+            first = false;
+        }
+        Ok(if below { (x as u64).wrapping_neg() } else { x as u64 })
+    }
+    /// One char of a quoted field; at the quote that closes it none, and that quote is passed over.
+    fn char(&mut self) -> Result<Option<u32>, Refusal> {
+        let b = self.next(|b| lead(b) > 0)?;
+        if b == b'"' {
+            if self.here() != Some(b'"') {
+                return Ok(None);
+            }
+            self.at += 1;
+            return Ok(Some(u32::from(b)));
+        }
+        let (from, width) = (self.at - 1, lead(b));
+        for i in 1..width {
+            // Some bytes behind these must make it a char.
+            let front = &self.row[from..self.at];
+            let ends: [&[u8]; 3] = [&[0x80, 0x80], &[0xBF, 0xBF], &[]];
+            let goes_on = |b: u8| {
+                ends.iter()
+                    .any(|end| first_char(&[front, &[b], &end[..(width - 1 - i).min(end.len())]].concat()).is_some())
+            };
+            self.next(goes_on)?;
+        }
+        Ok(first_char(&self.row[from..self.at]).map(|(code, _)| code))
+    }
+    fn hex(&mut self) -> Result<Vec<u8>, Refusal> {
+        let half = |b: u8| b"0123456789abcdef".iter().position(|&digit| digit == b);
+        let mut bytes = vec![];
+        loop {
+            let high = self.next(|b| b == b'"' || half(b).is_some())?;
+            let Some(high) = half(high) else { return Ok(bytes) };
+            let low = self.next(|b| half(b).is_some())?;
+            bytes.push((16 * high + half(low).expect("a digit")) as u8);
+        }
+    }
+    /// A field's wire form.
+    fn field(&mut self, kind: u8) -> Result<Vec<u8>, Refusal> {
+        let (table, mut pool) = (Table::leaf(kind), vec![]);
+        let word = match kind {
+            table::CHAR | table::STR | table::BYTES => {
+                self.next(|b| b == b'"')?;
+                match kind {
+                    table::CHAR => {
+                        let behind = self.at + 1;
+                        let code = self.char()?.ok_or(Refusal { no: 21, place: behind })?;
+                        self.next(|b| b == b'"')?;
+                        u64::from(code)
+                    }
+                    table::STR => {
+                        while let Some(code) = self.char()? {
+                            pool.extend(encode_char(code));
+                        }
+                        0
+                    }
+                    _ => {
+                        pool = self.hex()?;
+                        0
+                    }
+                }
+            }
+            _ => self.number(kind)?,
+        };
+        Ok(write_good(&table, &[[word, pool.len() as u64, 0]], &pool, &mut Plain))
+    }
+}
+
+pub fn csv_import(file: &[u8], row: &[u8], out_len: usize) -> Result<Vec<u8>, Refusal> {
+    let kinds = columns(&Table::parse(file)?)?;
+    let mut cells = Cells { row, at: 0 };
+    let mut message = vec![];
+    for (i, &kind) in kinds.iter().enumerate() {
+        if i > 0 {
+            cells.next(|b| b == b',')?;
+        }
+        message.extend(cells.field(kind)?);
+    }
+    cells.next(|b| b == b'\r')?;
+    cells.next(|b| b == b'\n')?;
+    if cells.at < row.len() {
+        return Err(Refusal { no: 21, place: cells.at });
+    }
+    if message.len() > out_len {
+        return Err(Refusal { no: 12, place: 0 });
+    }
+    Ok(message)
+}
+
 /// The shortest varint.
 pub fn shortest(mut value: u64) -> Vec<u8> {
     let mut out = vec![];

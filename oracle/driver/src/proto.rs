@@ -4,7 +4,7 @@ use crate::append::{appends, Which};
 use crate::compare::{self, Of, Pair};
 use crate::feed::{self, feed, feed_waiting, ROOM};
 use crate::send::send;
-use crate::{batch, find, model, read, strict, write, Entry, ReadAnswer, Refusal};
+use crate::{batch, csv, find, model, read, strict, write, Entry, ReadAnswer, Refusal};
 use core::fmt::Write;
 use core::ops::Range;
 
@@ -96,7 +96,7 @@ fn last_text(a: &Option<Result<Range<usize>, Refusal>>) -> String {
     }
 }
 
-/// Answers one request line. With `from_document` the crate-free model answers R, S, W, I, C, N, K, L and P.
+/// Answers one request line. With `from_document` the crate-free model answers R, S, W, I, C, N, K, L, P, X and M.
 pub fn answer(line: &str, from_document: bool) -> Result<String, String> {
     let f: Vec<&str> = line.split_ascii_whitespace().collect();
     match f[..] {
@@ -179,6 +179,14 @@ pub fn answer(line: &str, from_document: bool) -> Result<String, String> {
         ["P", table, batch, out_len] => {
             let compact = if from_document { model::batch_compact } else { batch::compact };
             Ok(write_text(&compact(&unhex(table)?, &unhex(batch)?, number(out_len)? as usize)))
+        }
+        ["X", table, message, out_len] => {
+            let export = if from_document { model::csv_export } else { csv::export };
+            Ok(write_text(&export(&unhex(table)?, &unhex(message)?, number(out_len)? as usize)))
+        }
+        ["M", table, row, out_len] => {
+            let import = if from_document { model::csv_import } else { csv::import };
+            Ok(write_text(&import(&unhex(table)?, &unhex(row)?, number(out_len)? as usize)))
         }
         _ => Err("unknown request".into()),
     }

@@ -3,6 +3,7 @@ use crate::area::Area;
 use crate::batches;
 use crate::feeding;
 use crate::opening;
+use crate::rows;
 use crate::sending;
 use oracle_driver::append::{appends, Which};
 use oracle_driver::compare::{compare, Of};
@@ -330,6 +331,8 @@ fn parsed(line: &str, area: &mut Area) -> Result<(&'static str, Result<(), Diffe
             batches::last(&unhex(table)?, &unhex(batch)?, number(store)?, number(product)?)
         }
         ["P", table, batch, out] => batches::compacting(&unhex(table)?, &unhex(batch)?, number(out)? as usize),
+        ["X", table, message, out] => rows::exporting(&unhex(table)?, &unhex(message)?, number(out)? as usize),
+        ["M", table, row, out] => rows::importing(&unhex(table)?, &unhex(row)?, number(out)? as usize),
         _ => return Err("unknown request".into()),
     })
 }

@@ -1,6 +1,6 @@
 //! Holds every answer of the proved static library against the oracle: number, place, count, every
 //! word of the store, the rest, every byte of the output and of the work area, the accumulator's array
-//! and message, an item's entry, every word of the list of differences, a batch's last message.
+//! and message, an item's entry, every word of the list of differences, a batch's last message, a CSV row.
 //!
 //!   gen SEED COUNT | judge           request lines from stdin (PROTOCOL.md)
 //!   gen SEED COUNT strict | judge    strict reads alone
@@ -11,11 +11,14 @@
 //!   gen SEED COUNT frames | judge    feeds alone, of long frames too, by both ways
 //!   gen SEED COUNT waits | judge     feeds by default, to states that wait and to others
 //!   gen SEED COUNT send | judge      messages sent as frames, and fed again
+//!   gen SEED COUNT csv | judge       CSV rows exported and imported, and back
 //!   judge short                      every message of up to two bytes, for each leaf kind and small tables
 //!   judge large                      batches at the edges of their 32-bit fields
 //!   judge streams SEED COUNT         whole streams of frames, cut anywhere
 //!
 //! Prints how many requests of each kind were compared, and each difference; exits with 1 if there was one.
+//!
+//!   gen SEED COUNT csv | judge rows  compares nothing, but prints the rows that the library exports, for oracle/rows
 
 mod area;
 mod batches;
@@ -23,6 +26,7 @@ mod calls;
 mod feeding;
 mod large;
 mod opening;
+mod rows;
 mod sending;
 mod short;
 
@@ -77,12 +81,13 @@ fn main() {
         [] => lines(),
         ["short"] => short::run(),
         ["large"] => large::run(),
+        ["rows"] => return rows::print().expect("exports to print"),
         ["streams", seed, count] => {
             let [seed, count] = [seed, count].map(|a| a.parse().expect("SEED and COUNT, both decimal"));
             feeding::streams(seed, count)
         }
         _ => {
-            eprintln!("usage: gen SEED COUNT | judge, judge short, judge large, or judge streams SEED COUNT");
+            eprintln!("usage: gen SEED COUNT | judge [rows], judge short, judge large, or judge streams SEED COUNT");
             std::process::exit(2)
         }
     };

@@ -12,8 +12,10 @@
 //!   speed stack      how deep the stack is under the longest chain
 //!   speed frames     the accumulator
 //!   speed sending    messages sent as frames, beside plain Rust
+//!   speed csv        CSV rows exported and imported, beside plain Rust
 
 mod batch;
+mod csv;
 mod frames;
 mod leaves;
 mod messages;
@@ -21,6 +23,7 @@ mod open;
 mod pairs;
 mod paths;
 mod question;
+mod rows;
 mod sending;
 mod stack;
 mod timing;
@@ -40,6 +43,7 @@ fn main() {
         ("stack", stack::report),
         ("frames", frames::report),
         ("sending", sending::report),
+        ("csv", csv::report),
     ] {
         if wanted.as_deref().is_none_or(|w| w == name) {
             report();

@@ -8,8 +8,8 @@ use Rattle.exports.proofs.reystavem_read_open.Tie as tie
 read-requires : tie.Need-read-requires
 read-requires c κs = search needs
 
-tell-open-requires : tie.Need-tell-open-requires
-tell-open-requires c κs = search needs
+opened-requires : tie.Need-opened-requires
+opened-requires c κs = search needs
 
 same-length : tie.Need-same-length
 same-length c = search needs
@@ -18,7 +18,8 @@ same-length-2 : tie.Need-same-length-2
 same-length-2 c = search needs
 
 returns : tie.Need-returns
-returns c = open-told (c .before .before .before .before .before .before .before .read .ensures) (c .tell-open .ensures)
+returns c = open-told (c .before .before .before .before .before .before .before .read .ensures) (c .opened .ensures)
 
 pub reystavem-read-open-spec : {M : Type 1} → statement M
-reystavem-read-open-spec = tie.close (tie.spec read-requires tell-open-requires same-length same-length-2 returns)
+reystavem-read-open-spec =
+    tie.close (tie.spec read-requires opened-requires same-length same-length-2 returns)

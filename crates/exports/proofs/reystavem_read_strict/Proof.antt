@@ -8,14 +8,15 @@ use Rattle.exports.proofs.reystavem_read_strict.Tie as tie
 read-strict-requires : tie.Need-read-strict-requires
 read-strict-requires c κs = search needs
 
-tell-read-requires : tie.Need-tell-read-requires
-tell-read-requires c κs = search needs
+reading-requires : tie.Need-reading-requires
+reading-requires c κs = search needs
 
 same-length : tie.Need-same-length
 same-length c = search needs
 
 returns : tie.Need-returns
-returns c = read-told (c .before .before .before .before .before .read-strict .ensures) (c .tell-read .ensures)
+returns c = read-told (c .before .before .before .before .before .read-strict .ensures) (c .reading .ensures)
 
 pub reystavem-read-strict-spec : {M : Type 1} → statement M
-reystavem-read-strict-spec = tie.close (tie.spec read-strict-requires tell-read-requires same-length returns)
+reystavem-read-strict-spec =
+    tie.close (tie.spec read-strict-requires reading-requires same-length returns)

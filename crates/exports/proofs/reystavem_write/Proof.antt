@@ -1,43 +1,21 @@
--- `exports::reystavem_write` meets its contract.
+-- `exports::reystavem_write` meets its contract: the answer is told as it came.
 -- Assumes nothing.
 use borrow.Author.Needs.{needs}
-use Rattle.exports.proofs.Told.{write-done, write-refused}
+use Rattle.exports.proofs.Told.{write-told}
 use Rattle.exports.proofs.reystavem_write.Statement.{statement}
 use Rattle.exports.proofs.reystavem_write.Tie as tie
 
 write-requires : tie.Need-write-requires
 write-requires c κs = search needs
 
-enum-known-got : tie.Need-enum-known-got
-enum-known-got c = search needs
-
-enum-known-got-2 : tie.Need-enum-known-got-2
-enum-known-got-2 c = search needs
-
-refusal-requires : tie.Need-refusal-requires
-refusal-requires c κs = search needs
+written-requires : tie.Need-written-requires
+written-requires c κs = search needs
 
 same-length : tie.Need-same-length
 same-length c = search needs
 
 returns : tie.Need-returns
-returns c = write-done (c .before .before .before .before .before .write .ensures) (c .before .got .given .1)
-
-same-length-2 : tie.Need-same-length-2
-same-length-2 c = search needs
-
-returns-2 : tie.Need-returns-2
-returns-2 c = write-refused (c .before .before .before .before .before .before .write .ensures) (c .before .before .got2 .given .1) (c .refusal .ensures)
+returns c = write-told (c .before .before .before .before .write .ensures) (c .written .ensures)
 
 pub reystavem-write-spec : {M : Type 1} → statement M
-reystavem-write-spec =
-    tie.close
-    (tie.spec
-    write-requires
-    enum-known-got
-    enum-known-got-2
-    refusal-requires
-    same-length
-    returns
-    same-length-2
-    returns-2)
+reystavem-write-spec = tie.close (tie.spec write-requires written-requires same-length returns)

@@ -1,7 +1,8 @@
 -- `readable::by_number` meets its contract.
 -- Assumes nothing.
 use mathlib.Core.Path.{refl}
-use Rattle.readable.specs.Spelling.{hexOf, padded}
+use Rattle.desk.specs.Csv.{hexOf}
+use Rattle.readable.specs.Spelling.{padded}
 use borrow.Author.Needs.{needs}
 use Rattle.readable.proofs.by_number.Statement.{statement}
 use Rattle.readable.proofs.by_number.Tie as tie

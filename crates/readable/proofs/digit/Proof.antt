@@ -2,7 +2,7 @@
 -- Assumes nothing.
 use borrow.Author.Tests.{lt-ltb, le-ltb}
 use Rattle.wire.specs.Tests.{pick}
-use Rattle.readable.specs.Spelling.{digitOf}
+use Rattle.desk.specs.Csv.{digitOf}
 use native.Mathlib.Omega.{arith}
 use borrow.Author.Needs.{needs}
 use Rattle.readable.proofs.digit.Statement.{statement}

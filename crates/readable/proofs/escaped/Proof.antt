@@ -2,7 +2,8 @@
 -- Assumes nothing.
 use mathlib.Core.Path.{refl}
 use Rattle.readable.proofs.Escapes.{escape-hidden, escape-shown}
-use Rattle.readable.specs.Spelling.{hexOf, isHidden, escape, padded}
+use Rattle.desk.specs.Csv.{hexOf}
+use Rattle.readable.specs.Spelling.{isHidden, escape, padded}
 use Rattle.wire.specs.Tests.{pick}
 use borrow.Author.Needs.{needs}
 use Rattle.readable.proofs.escaped.Statement.{statement}

@@ -1,6 +1,6 @@
 -- `readable::hex` meets its contract.
 -- Assumes nothing.
-use Rattle.readable.specs.Spelling.{hexOf}
+use Rattle.desk.specs.Csv.{hexOf}
 use borrow.Author.Needs.{needs}
 use Rattle.readable.proofs.hex.Statement.{statement}
 use Rattle.readable.proofs.hex.Tie as tie

@@ -3,8 +3,8 @@
 //! `gen SEED COUNT strict` prints strict reads alone; more than a third of their answers are 16.
 //! `gen SEED COUNT find` prints finds alone, `gen SEED COUNT compare` comparisons, `gen SEED COUNT batch` the three
 //! questions about night batches, `gen SEED COUNT compact` their compaction, `gen SEED COUNT frames` feeds, of long
-//! frames too, `gen SEED COUNT waits` feeds by default to states that wait and to others, and `gen SEED COUNT send`
-//! messages to be sent as frames.
+//! frames too, `gen SEED COUNT waits` feeds by default to states that wait and to others, `gen SEED COUNT send`
+//! messages to be sent as frames, and `gen SEED COUNT csv` CSV rows there and back.
 
 mod batches;
 mod edges;
@@ -14,6 +14,7 @@ mod padded;
 mod pairs;
 mod paths;
 mod rounds;
+mod rows;
 mod sending;
 mod tables;
 mod waits;
@@ -37,8 +38,9 @@ fn main() {
         [seed, count, "frames"] => (seed, count, Stream::Frames),
         [seed, count, "waits"] => (seed, count, Stream::Waits),
         [seed, count, "send"] => (seed, count, Stream::Send),
+        [seed, count, "csv"] => (seed, count, Stream::Csv),
         _ => {
-            eprintln!("usage: gen SEED COUNT [strict|find|compare|batch|compact|frames|waits|send]");
+            eprintln!("usage: gen SEED COUNT [strict|find|compare|batch|compact|frames|waits|send|csv]");
             std::process::exit(2)
         }
     };
@@ -69,6 +71,7 @@ enum Stream {
     /// Every feed is one by default, to a state that waits and to the same that doesn't.
     Waits,
     Send,
+    Csv,
 }
 
 struct Gen {
@@ -191,6 +194,7 @@ impl Gen {
                 self.frames_at_the_edge()?;
             }
             Stream::Send => self.sends_at_the_edge()?,
+            Stream::Csv => self.rows_at_the_edge()?,
         }
         self.rng = Rng(seed);
         loop {
@@ -204,6 +208,7 @@ impl Gen {
                 Stream::Frames => self.frame_round()?,
                 Stream::Waits => self.wait_round()?,
                 Stream::Send => self.send_round()?,
+                Stream::Csv => self.csv_round()?,
             }
         }
     }

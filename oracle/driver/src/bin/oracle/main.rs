@@ -58,7 +58,7 @@ fn lines(pairs: bool) -> bool {
     ok
 }
 
-/// F, A and T have no second source, so only R, S, W, E, I, C, N, K, L and P can differ. E's are two encoders of ours.
+/// F, A and T have no second source, so only R, S, W, E, I, C, N, K, L, P, X and M can differ. E's are two encoders of ours.
 fn check() -> bool {
     let mut out = BufWriter::new(io::stdout().lock());
     let (mut seen, mut differ) = (0u64, 0u64);

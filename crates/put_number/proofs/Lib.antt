@@ -1,0 +1,3 @@
+-- The laws that the functions cite.
+pub mod Laying
+pub mod Decimals

@@ -1,0 +1,3 @@
+-- The laws that the functions cite.
+pub mod Scanning
+pub mod Figures

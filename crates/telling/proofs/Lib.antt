@@ -1,0 +1,3 @@
+-- What each case of an answer comes to, over plain values.
+pub mod Told
+pub mod Marks

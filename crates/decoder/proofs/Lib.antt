@@ -1,3 +1,4 @@
 pub mod Search
+pub mod Sums
 pub mod Chunks
 pub mod Decoding

@@ -1,6 +1,7 @@
 -- Where a list's first zero is: the search goes on from what was passed, and a list splits at its first zero.
 -- Assumes nothing.
-use mathlib.Core.Path.{_≡_, refl, sym, ap, _∙_}
+use mathlib.Core.Path.{_≡_, refl, sym, ap, subst, _∙_}
+use mathlib.Core.Bool.{true, false}
 use mathlib.Core.List.{List, [], _∷_, _++_}
 use mathlib.Core.Option.{Option, none, some, Option·map}
 use Prim.Native.Nat.{ℕ, zero, suc, _+_, _≤_, _<_}
@@ -10,7 +11,7 @@ use lib.ListN.{length, take, drop, getD, drop-of-length-le}
 use lib.Seq.{drop-cons, drop-append-add}
 use Rattle.wire.specs.Frames.{toZero}
 use Rattle.decoder.specs.declared.Found.the-variants.{At, Nothing}
-use Rattle.decoder.specs.Parts.{foundOf, Seeks}
+use Rattle.decoder.specs.Parts.{foundOf, nowhere, Seeks}
 
 -- ---- the search
 
@@ -36,6 +37,22 @@ none-left : (i : ℕ) (s : List ℕ) → length s ≤ i → Option·map (λ (n :
 unfolding toZero
 none-left i s hi = rw (drop-of-length-le s)
 
+-- a list with no zero: its first byte, and what stands behind it
+some-front : (b : ℕ) (s : List ℕ) → true ≡ nowhere (toZero (b ∷ s)) → b ≡ 0 → ⊥
+unfolding toZero nowhere
+some-front zero s e is = let z : _≡_ {A = ℕ} 0 1 = cc in omega arith
+some-front (suc b) s e is = omega arith
+
+pub nowhere-later : (x : Option ℕ) → nowhere (Option·map (λ (n : ℕ). n + 1) x) ≡ nowhere x
+unfolding nowhere
+nowhere-later none = refl
+nowhere-later (some n) = refl
+
+none-behind : (b : ℕ) (s : List ℕ) → true ≡ nowhere (toZero (b ∷ s)) → true ≡ nowhere (toZero s)
+unfolding toZero nowhere
+none-behind zero s e = let z : _≡_ {A = ℕ} 0 1 = cc in absurd (omega arith)
+none-behind (suc b) s e = e ∙ nowhere-later (toZero s)
+
 pub seeks-none : (s : List ℕ) → Seeks s 0
 seeks-none s = record { within = omega arith; same = shift-none (toZero s) }
 
@@ -54,14 +71,13 @@ module _ {s : List ℕ} {i : ℕ} (h : Seeks s i) where
   unfolding foundOf
   seeks-end hi = ap foundOf (sym (none-left i s hi) ∙ h .same)
 
-pub seeks-four : {s : List ℕ} {i : ℕ} → Seeks s i → i + 4 ≤ length s → (getD s i 0 ≡ 0 → ⊥) → (getD s (i + 1) 0 ≡ 0 → ⊥) → (getD s (i + 2) 0 ≡ 0 → ⊥) → (getD s (i + 3) 0 ≡ 0 → ⊥) → Seeks s (i + 4)
-seeks-four {s} {i} h lo b0 b1 b2 b3 =
-    let two : i + 1 + 1 ≡ i + 2 = omega arith in
-    let three : i + 2 + 1 ≡ i + 3 = omega arith in
-    let four : i + 3 + 1 ≡ i + 4 = omega arith in
-    let at2 : Seeks s (i + 2) = rw two at (seeks-more (seeks-more h (omega arith) b0) (omega arith) b1) in
-    let at3 : Seeks s (i + 3) = rw three at (seeks-more at2 (omega arith) b2) in
-    rw four at (seeks-more at3 (omega arith) b3)
+-- past bytes that hold no zero
+pub seeks-on : {s : List ℕ} (k i : ℕ) → Seeks s i → i + k ≤ length s → true ≡ nowhere (toZero (take k (drop i s))) → Seeks s (i + k)
+seeks-on {s} zero i h inside e = let same : i ≡ i + 0 = omega arith in subst (Seeks s) same h
+seeks-on {s} (suc k) i h inside e =
+    let one = rw (drop-cons s i 0 (omega arith)) at e in
+    let same : i + 1 + k ≡ i + suc k = omega arith in
+    subst (Seeks s) same (seeks-on k (i + 1) (seeks-more h (omega arith) (some-front (getD s i 0) _ one)) (omega arith) (rw add-one (none-behind (getD s i 0) _ one)))
 
 pub found-at : {n : ℕ} (x : Option ℕ) → At n ≡ foundOf x → x ≡ some n
 unfolding foundOf

@@ -1,6 +1,7 @@
 -- What the functions ask and promise, beside wire's definitions.
 -- Assumes nothing.
 use mathlib.Core.Path.{_≡_}
+use mathlib.Core.Bool.{Bool, true, false}
 use mathlib.Core.List.{List, [], _++_}
 use mathlib.Core.Option.{Option, none, some, Option·map}
 use Prim.Native.Nat.{ℕ, _+_, _≤_}
@@ -14,6 +15,11 @@ use Rattle.decoder.specs.declared.Decoded.the-variants.{Message, Bad}
 unfoldable pub foundOf : Option ℕ → Found
 foundOf none = Nothing
 foundOf (some n) = At n
+
+-- whether nothing was found
+unfoldable pub nowhere : Option ℕ → Bool
+nowhere none = true
+nowhere (some n) = false
 
 -- the first i bytes hold no zero
 pub record Seeks (s : List ℕ) (i : ℕ) : Type 0 where

@@ -3,10 +3,10 @@
 ghost use mathlib.Core.Path.{_≡_};
 ghost use mathlib.Core.List.{[], _++_};
 ghost use Prim.Native.Nat.{_+_, _≤_};
-ghost use lib.ListN.{length, replicate};
+ghost use lib.ListN.{length, take, drop, replicate};
 ghost use Rattle.wire.specs.Frames.{room, gapAfter, toZero, padded};
 ghost use Rattle.wire.specs.Frames.{decode as messageOf};
-ghost use Rattle.decoder.specs.Parts.{foundOf, Seeks, with, Decodable, Decodes, Joinable};
+ghost use Rattle.decoder.specs.Parts.{foundOf, nowhere, Seeks, with, Decodable, Decodes, Joinable};
 
 // The bytes that a frame may have, its closing zero among them.
 pub const ROOM: usize = 2048;
@@ -21,26 +21,30 @@ pub enum Decoded {
     Bad,
 }
 
-// A place in front of which there is no zero: the first zero stands in the four bytes from there, or the end does. Four
+// Whether none of eight bytes is zero. The low seven bits of a byte and 127 make its high bit unless they are all zero, and
+// never more than a byte, so that no sum reaches the byte behind it.
+fn without_zero(s: &[u8], at: usize) -> bool
+    requires { ⌜ at + 8 ≤ length (now s) ⌝ }
+    ensures { λ r. ⌜ r ≡ nowhere (toZero (take 8 (drop at (now (s .entry))))) ⌝ }
+{
+    let x = eights::number(s, at);
+    let low = x & 0x7F7F_7F7F_7F7F_7F7F;
+    let sum = low + 0x7F7F_7F7F_7F7F_7F7F;
+    (sum | x) & 0x8080_8080_8080_8080 == 0x8080_8080_8080_8080
+}
+
+// A place in front of which there is no zero: the first zero stands in the eight bytes from there, or the end does. Eight
 // are tested in a turn, for speed.
 fn near_zero(s: &[u8]) -> usize
     ensures { λ r. ⌜ Seeks (now (s .entry)) r ⌝ }
 {
     let mut i = 0;
-    while 4 <= s.len() - i {
-        if s[i] == 0 {
+    while 8 <= s.len() - i {
+        let without = without_zero(s, i);
+        if !without {
             return i;
         }
-        if s[i + 1] == 0 {
-            return i;
-        }
-        if s[i + 2] == 0 {
-            return i;
-        }
-        if s[i + 3] == 0 {
-            return i;
-        }
-        i += 4;
+        i += 8;
     }
     i
 }
@@ -59,7 +63,7 @@ pub fn first_zero(s: &[u8]) -> Found
 }
 
 // Copies a part into an array of the room's length, from `at` on.
-pub fn put(array: &mut [u8], at: usize, part: &[u8])
+fn put_bytes(array: &mut [u8], at: usize, part: &[u8])
     requires { ⌜ (at + length (now part) ≤ room) × (length (now array) ≡ room) ⌝ }
     ensures { λ _. ⌜ now (array .exit) ≡ with (now (array .entry)) at (now (part .entry)) ⌝ }
 {
@@ -68,6 +72,19 @@ pub fn put(array: &mut [u8], at: usize, part: &[u8])
         let to = at + i;
         array[to] = part[i];
         i += 1;
+    }
+}
+
+// The same. Short parts have a call of their own: there the compiler knows that they are sixteen bytes at the most, and
+// copies a chunk of sixteen in one step.
+pub fn put(array: &mut [u8], at: usize, part: &[u8])
+    requires { ⌜ (at + length (now part) ≤ room) × (length (now array) ≡ room) ⌝ }
+    ensures { λ _. ⌜ now (array .exit) ≡ with (now (array .entry)) at (now (part .entry)) ⌝ }
+{
+    if part.len() <= 16 {
+        put_bytes(array, at, part);
+    } else {
+        put_bytes(array, at, part);
     }
 }
 
@@ -131,7 +148,7 @@ fn decode(frame: &[u8], message: &mut [u8]) -> Decoded
                 return Decoded::Bad;
             }
             let end = from + count;
-            put(message, to, &frame[from..end]);
+            put_bytes(message, to, &frame[from..end]);
             len = to + count;
             gap = after;
             i = end;

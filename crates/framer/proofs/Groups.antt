@@ -6,14 +6,15 @@ use Prim.Native.Nat.{ℕ, suc, _+_, _-_, _≤_, _<_}
 use native.Mathlib.Nat.{zero-add}
 use native.Mathlib.Numerals.{add-one}
 use native.Mathlib.Omega.{arith}
-use lib.ListN.{length, getD, set, drop, length-append, length-drop, length-set, drop-of-length-le}
+use lib.ListN.{length, getD, set, drop, replicate, length-append, length-drop, length-replicate, length-set, drop-of-length-le}
 use lib.Seq.{sets, length-sets, set-comm, drop-cons, drop-drop, getD-drop}
 use Rattle.wire.specs.Sending.{group, encode, frame}
 use Rattle.laws.proofs.Parts.{sets-append}
 use Rattle.framing.proofs.Groups.{by-groups}
 use Rattle.framing.proofs.Sizes.{sized}
-use Rattle.framer.specs.Steps.{groupAt, Runnable, Ran, Put}
+use Rattle.framer.specs.Steps.{groupAt, Runnable, Ran, Fillable, Filled, Put}
 use Rattle.framer.proofs.Runs.{run-short, run-clean, run-front, run-stops}
+use Rattle.framer.proofs.Zeros.{zero-groups}
 
 -- a store in front of others can come first
 set-sets : (l : List ℕ) (i j a : ℕ) (s : List ℕ) → i < j → set (sets l j s) i a ≡ sets (set l i a) j s
@@ -54,27 +55,24 @@ module _ {m out₀ : List ℕ} {from at : ℕ} {out : List ℕ} (h : Framing m o
   inside : behind ≤ length m
   inside = omega (arith, h .within, ap length cut, length-append bytes (drop behind m), length-drop from m)
 
-  -- the group and the closing zero have their places
-  pub framing-room : at + 1 + length bytes < length out
+  -- a byte for each that is left, one more for the groups' codes and the closing zero have their places
+  framing-all : at + (length m - from) + 2 ≤ length out
   unfolding frame
-  framing-room =
-      omega (arith, h .count, h .within, framing-long, inside, length-drop from m, sized (drop from m) .least, ap length (h .same), length-append (h .made) (encode (drop from m)), length-append (encode m) (0 ∷ []), length-append (encode (drop from m)) (0 ∷ []))
+  framing-all =
+      omega (arith, h .count, h .within, framing-long, length-drop from m, sized (drop from m) .least, ap length (h .same), length-append (h .made) (encode (drop from m)), length-append (encode m) (0 ∷ []), length-append (encode (drop from m)) (0 ∷ []))
+
+  pub framing-room : at + 1 + length bytes < length out
+  framing-room = omega (arith, framing-all, inside)
 
   pub framing-runs : Runnable m from out (at + 1)
   framing-runs = record { within = h .within; fits = omega (arith, framing-room) }
 
-  module _ {end : ℕ} {left : List ℕ} (r : Ran m from out (at + 1) end left) where
-    long : end - from ≡ length bytes
-    long = omega (arith, r .ends)
+  module _ {count : ℕ} {left : List ℕ} (r : Ran m from out (at + 1) count left) where
+    pub framing-inside : from + count ≤ length m
+    framing-inside = omega (arith, r .many, inside)
 
-    pub framing-up : from ≤ end
-    framing-up = omega (arith, r .ends)
-
-    pub framing-inside : end ≤ length m
-    framing-inside = omega (arith, r .ends, inside)
-
-    pub framing-few : end - from ≤ 254
-    framing-few = omega (arith, long, few)
+    pub framing-few : count ≤ 254
+    framing-few = omega (arith, r .many, few)
 
     pub framing-left : length left ≡ length out
     framing-left = rw (r .stored) (length-sets out (at + 1) bytes)
@@ -82,29 +80,29 @@ module _ {m out₀ : List ℕ} {from at : ℕ} {out : List ℕ} (h : Framing m o
     pub framing-code : at < length left
     framing-code = omega (arith, framing-left, framing-room)
 
-    pub framing-next : at + 1 + (end - from) < length out₀
-    framing-next = omega (arith, framing-long, framing-room, long)
+    pub framing-next : at + 1 + count < length out₀
+    framing-next = omega (arith, framing-long, framing-room, r .many)
 
-    pub framing-zero : (code : ℕ) → at + 1 + (end - from) < length (set left at code)
+    pub framing-zero : (code : ℕ) → at + 1 + count < length (set left at code)
     framing-zero code = omega (arith, length-set left at code, framing-left, framing-long, framing-next)
 
-    pub framing-same : (code place : ℕ) → length (set (set left at code) place 0) ≡ length out₀
-    framing-same code place = length-set (set left at code) place 0 ∙ length-set left at code ∙ framing-left ∙ framing-long
+    pub framing-same : (code place b : ℕ) → length (set (set left at code) place b) ≡ length out₀
+    framing-same code place b = length-set (set left at code) place b ∙ length-set left at code ∙ framing-left ∙ framing-long
 
     -- what stands there then
-    now-made : set left at (end - from + 1) ≡ sets out₀ 0 (h .made ++ group bytes)
+    now-made : set left at (count + 1) ≡ sets out₀ 0 (h .made ++ group bytes)
     now-made =
-        let code : end - from + 1 ≡ suc (length bytes) = omega (arith, long) in
-        let one : set left at (end - from + 1) ≡ sets out at (group bytes) = rw (r .stored, code) (group-stored out at bytes) in
+        let code : count + 1 ≡ suc (length bytes) = omega (arith, r .many) in
+        let one : set left at (count + 1) ≡ sets out at (group bytes) = rw (r .stored, code) (group-stored out at bytes) in
         let both : sets out at (group bytes) ≡ sets out₀ 0 (h .made ++ group bytes) = rw (h .stored, h .count, ← zero-add (length (h .made))) (sets-append out₀ 0 (h .made) (group bytes)) in
         one ∙ both
 
-    now-count : at + 1 + (end - from) ≡ length (h .made ++ group bytes)
+    now-count : at + 1 + count ≡ length (h .made ++ group bytes)
     unfolding group
-    now-count = omega (arith, h .count, long, length-append (h .made) (suc (length bytes) ∷ bytes))
+    now-count = omega (arith, h .count, r .many, length-append (h .made) (suc (length bytes) ∷ bytes))
 
     -- the groups up to this one, and what is left
-    goes-on : (next : ℕ) → next ≤ length m → encode (drop from m) ≡ group bytes ++ encode (drop next m) → Framing m out₀ next (at + 1 + (end - from)) (set left at (end - from + 1))
+    goes-on : (next : ℕ) → next ≤ length m → encode (drop from m) ≡ group bytes ++ encode (drop next m) → Framing m out₀ next (at + 1 + count) (set left at (count + 1))
     goes-on next le e = record {
       made = h .made ++ group bytes;
       count = now-count;
@@ -113,31 +111,49 @@ module _ {m out₀ : List ℕ} {from at : ℕ} {out : List ℕ} (h : Framing m o
       stored = now-made;
     }
 
-    module _ (more : end < length m) where
-      next-byte : drop behind m ≡ getD m end 0 ∷ drop (end + 1) m
-      next-byte = rw (← r .ends, add-one end) (drop-cons m end 0 more)
+    module _ (more : from + count < length m) where
+      next-byte : drop behind m ≡ getD m (from + count) 0 ∷ drop (from + count + 1) m
+      next-byte = rw (← r .many, add-one (from + count)) (drop-cons m (from + count) 0 more)
 
-      pub framing-full : end - from ≡ 254 → Framing m out₀ end (at + 1 + (end - from)) (set left at (end - from + 1))
+      pub framing-full : count ≡ 254 → Framing m out₀ (from + count) (at + 1 + count) (set left at (count + 1))
       framing-full is =
-          goes-on end (omega arith) (ap encode (cut ∙ ap (λ (s : List ℕ). bytes ++ s) next-byte) ∙ by-groups bytes (run-clean 254 (drop from m)) .full (getD m end 0) (drop (end + 1) m) (omega (arith, long)) ∙ ap (λ (s : List ℕ). group bytes ++ encode s) (sym next-byte ∙ ap (λ (p : ℕ). drop p m) (sym (r .ends))))
+          goes-on (from + count) (omega arith) (ap encode (cut ∙ ap (λ (s : List ℕ). bytes ++ s) next-byte) ∙ by-groups bytes (run-clean 254 (drop from m)) .full (getD m (from + count) 0) (drop (from + count + 1) m) (omega (arith, r .many)) ∙ ap (λ (s : List ℕ). group bytes ++ encode s) (sym next-byte ∙ ap (λ (k : ℕ). drop (from + k) m) (sym (r .many))))
 
-      zero-there : (end - from ≡ 254 → ⊥) → getD m end 0 ≡ 0
+      zero-there : (count ≡ 254 → ⊥) → getD m (from + count) 0 ≡ 0
       zero-there ne =
-          rw (r .ends) (sym (getD-drop from m (length bytes) 0) ∙ run-stops 254 (drop from m) (omega (arith, long, few)) (omega (arith, r .ends, length-drop from m)))
+          rw (r .many) (sym (getD-drop from m (length bytes) 0) ∙ run-stops 254 (drop from m) (omega (arith, r .many, few)) (omega (arith, r .many, length-drop from m)))
 
-      pub framing-ended : (end - from ≡ 254 → ⊥) → Framing m out₀ (end + 1) (at + 1 + (end - from)) (set left at (end - from + 1))
+      pub framing-ended : (count ≡ 254 → ⊥) → Framing m out₀ (from + count + 1) (at + 1 + count) (set left at (count + 1))
       framing-ended ne =
-          goes-on (end + 1) (omega arith) (ap encode (cut ∙ ap (λ (s : List ℕ). bytes ++ s) (next-byte ∙ ap (λ (b : ℕ). b ∷ drop (end + 1) m) (zero-there ne))) ∙ by-groups bytes (run-clean 254 (drop from m)) .ended (drop (end + 1) m) (omega (arith, long, few)))
+          goes-on (from + count + 1) (omega arith) (ap encode (cut ∙ ap (λ (s : List ℕ). bytes ++ s) (next-byte ∙ ap (λ (b : ℕ). b ∷ drop (from + count + 1) m) (zero-there ne))) ∙ by-groups bytes (run-clean 254 (drop from m)) .ended (drop (from + count + 1) m) (omega (arith, r .many, few)))
 
     -- the last group, and the closing zero behind it
-    pub framing-last : length m ≤ end → Put (frame m) out₀ (at + 1 + (end - from) + 1) (set (set left at (end - from + 1)) (at + 1 + (end - from)) 0)
+    pub framing-last : length m ≤ from + count → Put (frame m) out₀ (at + 1 + count + 1) (set (set left at (count + 1)) (at + 1 + count) 0)
     unfolding frame
     framing-last past =
-        let nothing : drop behind m ≡ [] = drop-of-length-le m {i = behind} (omega (arith, r .ends)) in
+        let nothing : drop behind m ≡ [] = drop-of-length-le m {i = behind} (omega (arith, r .many)) in
         let last : encode (drop from m) ≡ group bytes = ap encode (cut ∙ ap (λ (s : List ℕ). bytes ++ s) nothing ∙ append-nil bytes) ∙ by-groups bytes (run-clean 254 (drop from m)) .last few in
         let whole : h .made ++ group bytes ≡ encode m = ap (λ (s : List ℕ). h .made ++ s) (sym last) ∙ h .same in
-        let count : at + 1 + (end - from) ≡ length (encode m) = now-count ∙ ap length whole in
+        let place : at + 1 + count ≡ length (encode m) = now-count ∙ ap length whole in
         record {
-          many = omega (arith, count, length-append (encode m) (0 ∷ []));
-          stored = rw (now-made, whole, count, ← zero-add (length (encode m))) (sets-append out₀ 0 (encode m) (0 ∷ []));
+          many = omega (arith, place, length-append (encode m) (0 ∷ []));
+          stored = rw (now-made, whole, place, ← zero-add (length (encode m))) (sets-append out₀ 0 (encode m) (0 ∷ []));
         }
+
+  -- ---- zeros that follow, for which 01 is put each
+
+  -- a byte for each that is left has its place
+  pub framing-fillable : Fillable m from out at
+  framing-fillable = record { within = h .within; fits = omega (arith, framing-all) }
+
+  pub framing-filled : {n : ℕ} {left : List ℕ} → Filled m from out at n left → at + n < length out₀
+  framing-filled f = omega (arith, framing-all, framing-long, f .inside)
+
+  pub framing-ones : {n : ℕ} {left : List ℕ} → Filled m from out at n left → Framing m out₀ (from + n) (at + n) left
+  framing-ones {n} f = record {
+    made = h .made ++ replicate n 1;
+    count = omega (arith, h .count, length-append (h .made) (replicate n 1), length-replicate {A = ℕ} n 1);
+    within = f .inside;
+    same = append-assoc (h .made) (replicate n 1) (encode (drop (from + n) m)) ∙ ap (λ (s : List ℕ). h .made ++ s) (sym (zero-groups n (drop (from + n) m)) ∙ ap encode (sym (f .zeros))) ∙ h .same;
+    stored = f .stored ∙ rw (h .stored, h .count, ← zero-add (length (h .made))) (sets-append out₀ 0 (h .made) (replicate n 1));
+  }

@@ -11,7 +11,7 @@ use lib.Seq.{sets, length-sets, drop-cons}
 use Rattle.wire.specs.Frames.{toZero}
 use Rattle.laws.proofs.Parts.{sets-append}
 use Rattle.laws.proofs.Splits.{by-lt}
-use Rattle.framer.specs.Steps.{run, groupAt, Ends, Ran}
+use Rattle.framer.specs.Steps.{run, groupAt, Most, Ran}
 
 -- ---- what a run is
 
@@ -72,85 +72,90 @@ run-stops (suc most) (suc b ∷ s) few more = run-stops most s (omega arith) (om
 -- ---- the loop
 
 -- some bytes of the group were put
-pub record Running (message : List ℕ) (from : ℕ) (out₀ : List ℕ) (to stop i at : ℕ) (out : List ℕ) : Type 0 where
+pub record Running (message : List ℕ) (from : ℕ) (out₀ : List ℕ) (to most n : ℕ) (out : List ℕ) : Type 0 where
   pub front : List ℕ
   pub left : ℕ
-  pub here : i ≡ from + length front
-  pub there : at ≡ to + length front
-  pub count : length front + left ≡ 254
-  pub same : front ++ run left (drop i message) ≡ groupAt message from
+  pub count : n ≡ length front
+  pub more : n + left ≡ 254
+  pub same : front ++ run left (drop (from + n) message) ≡ groupAt message from
   pub stored : out ≡ sets out₀ to front
-  pub up : i ≤ stop
-  pub stops : Ends (length message) from stop
+  pub up : n ≤ most
+  pub within : from ≤ length message
+  pub stops : Most (length message - from) most
 
-pub running-begin : {message out : List ℕ} {from to stop : ℕ} → Ends (length message) from stop → Running message from out to stop from to out
-running-begin s = record {
-  front = [];
-  left = 254;
-  here = omega arith;
-  there = omega arith;
-  count = refl;
-  same = refl;
-  stored = refl;
-  up = s .up;
-  stops = s;
-}
+pub running-begin : {message out : List ℕ} {from to most : ℕ} → from ≤ length message → Most (length message - from) most → Running message from out to most 0 out
+running-begin {from = from} within s =
+    let here : from + 0 ≡ from = omega arith in
+    record {
+      front = [];
+      left = 254;
+      count = refl;
+      more = refl;
+      same = rw here;
+      stored = refl;
+      up = omega arith;
+      within = within;
+      stops = s;
+    }
 
-module _ {message : List ℕ} {from : ℕ} {out₀ : List ℕ} {to stop i at : ℕ} {out : List ℕ} (h : Running message from out₀ to stop i at out) where
+module _ {message : List ℕ} {from : ℕ} {out₀ : List ℕ} {to most n : ℕ} {out : List ℕ} (h : Running message from out₀ to most n out) where
   pub running-long : length out ≡ length out₀
   running-long = rw (h .stored) (length-sets out₀ to (h .front))
 
   -- nothing more is put
-  module _ (none-left : run (h .left) (drop i message) ≡ []) where
+  module _ (none-left : run (h .left) (drop (from + n) message) ≡ []) where
     whole : h .front ≡ groupAt message from
     whole = sym (append-nil (h .front)) ∙ ap (λ (s : List ℕ). h .front ++ s) (sym none-left) ∙ h .same
 
-    stopped : Ran message from out₀ to i out
-    stopped = record { ends = h .here ∙ ap (λ (s : List ℕ). from + length s) whole; stored = h .stored ∙ ap (sets out₀ to) whole }
+    stopped : Ran message from out₀ to n out
+    stopped = record { many = h .count ∙ ap length whole; stored = h .stored ∙ ap (sets out₀ to) whole }
 
-  pub running-end : stop ≤ i → Ran message from out₀ to i out
+  pub running-end : most ≤ n → Ran message from out₀ to n out
   running-end hi =
-      stopped (by-lt stop (length message)
-      (λ lo. let e : h .left ≡ 0 = omega (arith, h .here, h .count, h .stops .full lo, h .up) in rw e (run-full (drop i message)))
-      (λ past. rw (drop-of-length-le message {i = i} (omega arith)) (run-end (h .left))))
+      stopped (by-lt most (length message - from)
+      (λ lo. let e : h .left ≡ 0 = omega (arith, h .more, h .stops .full lo, h .up) in rw e (run-full (drop (from + n) message)))
+      (λ past. rw (drop-of-length-le message {i = from + n} (omega (arith, h .within))) (run-end (h .left))))
 
-  module _ (lo : i < stop) where
+  module _ (lo : n < most) where
     abbrev byte : ℕ
-    byte = getD message i 0
+    byte = getD message (from + n) 0
 
-    turn : drop i message ≡ byte ∷ drop (i + 1) message
-    turn = rw add-one (drop-cons message i 0 (omega (arith, h .stops .inside)))
+    pub running-inside : from + n < length message
+    running-inside = omega (arith, h .stops .inside)
 
-    pub running-zero : byte ≡ 0 → Ran message from out₀ to i out
-    running-zero is = stopped (rw turn (run-zero (h .left) byte (drop (i + 1) message) is))
+    turn : drop (from + n) message ≡ byte ∷ drop (from + (n + 1)) message
+    turn = let behind : from + (n + 1) ≡ suc (from + n) = omega arith in rw behind (drop-cons message (from + n) 0 running-inside)
 
-    more : 1 ≤ h .left
-    more = omega (arith, h .here, h .count, h .stops .few)
+    pub running-zero : byte ≡ 0 → Ran message from out₀ to n out
+    running-zero is = stopped (rw turn (run-zero (h .left) byte (drop (from + (n + 1)) message) is))
+
+    some-left : 1 ≤ h .left
+    some-left = omega (arith, h .more, h .stops .few)
 
     module _ (is : byte ≡ 0 → ⊥) where
-      goes-on : run (h .left) (drop i message) ≡ byte ∷ run (h .left - 1) (drop (i + 1) message)
+      goes-on : run (h .left) (drop (from + n) message) ≡ byte ∷ run (h .left - 1) (drop (from + (n + 1)) message)
       goes-on =
-          let e : h .left ≡ suc (h .left - 1) = omega (arith, more) in
-          ap (λ (n : ℕ). run n (drop i message)) e ∙ rw turn (run-on (h .left - 1) byte (drop (i + 1) message) is)
+          let e : h .left ≡ suc (h .left - 1) = omega (arith, some-left) in
+          ap (λ (k : ℕ). run k (drop (from + n) message)) e ∙ rw turn (run-on (h .left - 1) byte (drop (from + (n + 1)) message) is)
 
       -- so the byte has its place
-      pub running-room : to + length (groupAt message from) ≤ length out₀ → at < length out
+      pub running-room : to + length (groupAt message from) ≤ length out₀ → to + n < length out
       running-room fits =
-          let long : length (h .front) + suc (length (run (h .left - 1) (drop (i + 1) message))) ≡ length (groupAt message from) =
-          sym (length-append (h .front) (byte ∷ run (h .left - 1) (drop (i + 1) message))) ∙ ap length (ap (λ (s : List ℕ). h .front ++ s) (sym goes-on) ∙ h .same)
+          let long : length (h .front) + suc (length (run (h .left - 1) (drop (from + (n + 1)) message))) ≡ length (groupAt message from) =
+          sym (length-append (h .front) (byte ∷ run (h .left - 1) (drop (from + (n + 1)) message))) ∙ ap length (ap (λ (s : List ℕ). h .front ++ s) (sym goes-on) ∙ h .same)
           in
-          omega (arith, h .there, running-long)
+          omega (arith, h .count, running-long)
 
-      pub running-next : Running message from out₀ to stop (i + 1) (at + 1) (set out at byte)
+      pub running-next : Running message from out₀ to most (n + 1) (set out (to + n) byte)
       running-next =
           record {
             front = h .front ++ (byte ∷ []);
             left = h .left - 1;
-            here = omega (arith, h .here, length-append (h .front) (byte ∷ []));
-            there = omega (arith, h .there, length-append (h .front) (byte ∷ []));
-            count = omega (arith, h .count, more, length-append (h .front) (byte ∷ []));
-            same = append-assoc (h .front) (byte ∷ []) (run (h .left - 1) (drop (i + 1) message)) ∙ ap (λ (s : List ℕ). h .front ++ s) (sym goes-on) ∙ h .same;
-            stored = rw (h .stored, h .there) (sets-append out₀ to (h .front) (byte ∷ []));
+            count = omega (arith, h .count, length-append (h .front) (byte ∷ []));
+            more = omega (arith, h .more, some-left);
+            same = append-assoc (h .front) (byte ∷ []) (run (h .left - 1) (drop (from + (n + 1)) message)) ∙ ap (λ (s : List ℕ). h .front ++ s) (sym goes-on) ∙ h .same;
+            stored = rw (h .stored) (ap (λ (k : ℕ). set (sets out₀ to (h .front)) (to + k) byte) (h .count) ∙ sets-append out₀ to (h .front) (byte ∷ []));
             up = omega arith;
+            within = h .within;
             stops = h .stops;
           }

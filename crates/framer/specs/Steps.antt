@@ -1,9 +1,9 @@
 -- What the steps of sending a frame ask and leave.
 -- Assumes nothing.
 use mathlib.Core.Path.{_≡_}
-use mathlib.Core.List.{List, [], _∷_}
-use Prim.Native.Nat.{ℕ, zero, suc, _+_, _≤_, _<_}
-use lib.ListN.{length, getD, drop}
+use mathlib.Core.List.{List, [], _∷_, _++_}
+use Prim.Native.Nat.{ℕ, zero, suc, _+_, _-_, _≤_, _<_}
+use lib.ListN.{length, getD, drop, replicate}
 use lib.Dec.{eqb}
 use lib.Seq.{sets}
 use Rattle.wire.specs.Tests.{pick}
@@ -24,22 +24,32 @@ run (suc most) (suc b ∷ s) = suc b ∷ run most s
 abbrev pub groupAt : List ℕ → ℕ → List ℕ
 groupAt message from = run 254 (drop from message)
 
--- a group that starts at a place ends with its 254th byte or, if it is earlier, at the message's end
-pub record Ends (len from stop : ℕ) : Type 0 where
-  pub up : from ≤ stop
-  pub inside : stop ≤ len
-  pub few : stop ≤ from + 254
-  pub full : stop < len → stop ≡ from + 254
+-- a group has 254 bytes at the most, and no more than are left
+pub record Most (left most : ℕ) : Type 0 where
+  pub inside : most ≤ left
+  pub few : most ≤ 254
+  pub full : most < left → most ≡ 254
 
 -- an output has room for them
 pub record Runnable (message : List ℕ) (from : ℕ) (out : List ℕ) (to : ℕ) : Type 0 where
   pub within : from ≤ length message
   pub fits : to + length (groupAt message from) ≤ length out
 
--- they stand there, and end at a place in the message
-pub record Ran (message : List ℕ) (from : ℕ) (out : List ℕ) (to end : ℕ) (left : List ℕ) : Type 0 where
-  pub ends : end ≡ from + length (groupAt message from)
+-- they stand there, so many
+pub record Ran (message : List ℕ) (from : ℕ) (out : List ℕ) (to count : ℕ) (left : List ℕ) : Type 0 where
+  pub many : count ≡ length (groupAt message from)
   pub stored : left ≡ sets out to (groupAt message from)
+
+-- an output has room for a byte for each that is left of the message
+pub record Fillable (message : List ℕ) (from : ℕ) (out : List ℕ) (to : ℕ) : Type 0 where
+  pub within : from ≤ length message
+  pub fits : to + (length message - from) ≤ length out
+
+-- so many zeros stand from a place in the message on, and 01 for each from a place in the output on
+pub record Filled (message : List ℕ) (from : ℕ) (out : List ℕ) (to n : ℕ) (left : List ℕ) : Type 0 where
+  pub inside : from + n ≤ length message
+  pub zeros : drop from message ≡ replicate n 0 ++ drop (from + n) message
+  pub stored : left ≡ sets out to (replicate n 1)
 
 -- bytes stand in front in an output, so many
 pub record Put (s out : List ℕ) (n : ℕ) (left : List ℕ) : Type 0 where

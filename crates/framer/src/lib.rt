@@ -3,12 +3,13 @@ use wire::Refusal;
 use wire::WriteAnswer;
 ghost use mathlib.Core.Path.{_≡_};
 ghost use Prim.Native.Nat.{_+_, _≤_};
-ghost use lib.ListN.{length, drop};
+ghost use lib.ListN.{length, drop, replicate};
 ghost use lib.Dec.{leb};
+ghost use lib.Seq.{sets};
 ghost use Rattle.wire.specs.Sending.{sends};
 ghost use Rattle.wire.specs.Sending.{frame as frameOf};
 ghost use Rattle.laws.specs.Answered.{Writes};
-ghost use Rattle.framer.specs.Steps.{throughZero, Ends, Runnable, Ran, Put};
+ghost use Rattle.framer.specs.Steps.{throughZero, Most, Runnable, Ran, Fillable, Filled, Put};
 
 // The bytes of a full group.
 const FULL: usize = 254;
@@ -67,37 +68,86 @@ fn has_room(message: &[u8], room: usize) -> bool
 
 // ---- the frame
 
-// Where a group that starts at a place ends at the latest.
-fn latest_end(len: usize, from: usize) -> usize
-    requires { ⌜ from ≤ len ⌝ }
-    ensures { λ r. ⌜ Ends len from r ⌝ }
+// How many bytes a group has at the most, where so many are left of the message.
+fn most_bytes(left: usize) -> usize
+    ensures { λ r. ⌜ Most left r ⌝ }
 {
-    if FULL < len - from {
-        return from + FULL;
+    if FULL < left {
+        return FULL;
     }
-    len
+    left
 }
 
-// Copies the bytes of a group, from a place in the message to one in the output, up to a zero or the 254th, and answers where
-// they end in the message.
+// Copies the bytes of a group, from a place in the message to one in the output, up to a zero or the 254th, and answers how
+// many they are.
 fn put_run(message: &[u8], from: usize, out: &mut [u8], to: usize) -> usize
     requires { ⌜ Runnable (now message) from (now out) to ⌝ }
     ensures { λ r. ⌜ Ran (now (message .entry)) from (now (out .entry)) to r (now (out .exit)) ⌝ }
 {
-    let len = message.len();
-    let stop = latest_end(len, from);
-    let mut i = from;
-    let mut at = to;
-    while i < stop {
-        let b = message[i];
+    let left = message.len() - from;
+    let most = most_bytes(left);
+    let mut n = 0;
+    while n < most {
+        let b = message[from + n];
         if b == 0 {
-            return i;
+            return n;
         }
-        out[at] = b;
-        i = i + 1;
-        at = at + 1;
+        out[to + n] = b;
+        n = n + 1;
     }
-    i
+    n
+}
+
+// Puts the code of an empty group, 01, eight times. The compiler makes one store of it.
+fn put_eight(out: &mut [u8], at: usize)
+    requires { ⌜ at + 8 ≤ length (now out) ⌝ }
+    ensures { λ _. ⌜ now (out .exit) ≡ sets (now (out .entry)) at (replicate 8 1) ⌝ }
+{
+    out[at] = 1;
+    out[at + 1] = 1;
+    out[at + 2] = 1;
+    out[at + 3] = 1;
+    out[at + 4] = 1;
+    out[at + 5] = 1;
+    out[at + 6] = 1;
+    out[at + 7] = 1;
+}
+
+// Puts 01 for each zero from a place in the message on, eight in a turn while there are so many, and answers how many.
+fn put_eights(message: &[u8], from: usize, out: &mut [u8], to: usize) -> usize
+    requires { ⌜ Fillable (now message) from (now out) to ⌝ }
+    ensures { λ r. ⌜ Filled (now (message .entry)) from (now (out .entry)) to r (now (out .exit)) ⌝ }
+{
+    let mut left = message.len() - from;
+    let mut n = 0;
+    while 8 <= left {
+        let x = eights::number(message, from + n);
+        if x != 0 {
+            return n;
+        }
+        put_eight(out, to + n);
+        n = n + 8;
+        left = left - 8;
+    }
+    n
+}
+
+// The same of all zeros up to another byte, the last of them one by one.
+fn put_ones(message: &[u8], from: usize, out: &mut [u8], to: usize) -> usize
+    requires { ⌜ Fillable (now message) from (now out) to ⌝ }
+    ensures { λ r. ⌜ Filled (now (message .entry)) from (now (out .entry)) to r (now (out .exit)) ⌝ }
+{
+    let left = message.len() - from;
+    let mut n = put_eights(message, from, out, to);
+    while n < left {
+        let b = message[from + n];
+        if b != 0 {
+            return n;
+        }
+        out[to + n] = 1;
+        n = n + 1;
+    }
+    n
 }
 
 // Puts a message's frame in front in an output that has room for it, group by group, and answers its length.
@@ -110,8 +160,8 @@ fn put_frame(message: &[u8], out: &mut [u8]) -> usize
     let mut at = 0;
     loop {
         let to = at + 1;
-        let end = put_run(message, from, out, to);
-        let count = end - from;
+        let count = put_run(message, from, out, to);
+        let end = from + count;
         let code = (count + 1) as u8;
         out[at] = code;
         let next = to + count;
@@ -123,6 +173,11 @@ fn put_frame(message: &[u8], out: &mut [u8]) -> usize
         if count == FULL {
             from = end;
             at = next;
+        } else if count == 0 {
+            // Each zero behind a zero is an empty group too, and there may be many.
+            let ones = put_ones(message, after, out, next);
+            from = after + ones;
+            at = next + ones;
         } else {
             from = after;
             at = next;

@@ -3,39 +3,25 @@
 use mathlib.Core.Path.{_≡_, refl, sym, subst, _∙_}
 use mathlib.Core.Bool.{Bool, true, false, not}
 use mathlib.Core.List.{List, [], _∷_}
-use Prim.Native.Nat.{ℕ, zero, suc, _+_, _-_, _*_, _/_, _%_, _^_, _<_, _≤_}
+use Prim.Native.Nat.{ℕ, zero, suc, _+_, _-_, _*_, _/_, _<_, _≤_}
 use native.Mathlib.Omega.{arith}
-use lib.Bits.{bitAnd, and-block, and-high}
+use lib.Bits.{bitAnd}
 use lib.Dec.{eqb}
 use lib.ListN.{length, getD, take, drop, length-drop}
 use lib.Seq.{length-take-le, getD-take, getD-drop}
 use borrow.Author.Tests.{eqb-true, not-false}
-use Rattle.wire.specs.Shape.{le}
-use Rattle.wire.specs.Numbers.{little, inOrder}
+use Rattle.wire.specs.Numbers.{little}
 use Rattle.laws.specs.Range.{AreBelow, AreBytes}
-use Rattle.laws.proofs.Bytes.{below-take, below-drop, front-lt}
-use Rattle.laws.proofs.Parts.{next}
+use Rattle.laws.proofs.Bytes.{below-take, below-drop}
+use Rattle.eights.proofs.Digits.{highs, high-bit, and-digit}
 use Rattle.singles.specs.Passed.{Same}
 use Rattle.singles.proofs.Passed.{here, single}
 
 -- ---- the high bits of a number's digits
 
--- the number whose n digits, in base 256, are a high bit each
-unfoldable pub highs : ℕ → ℕ
-highs zero = 0
-highs (suc n) = 128 + 256 * highs n
-
--- a byte's high bit
-high-bit : (b : ℕ) → b < 256 → bitAnd b 128 ≡ b / 128 * 128
-high-bit b h = let e : bitAnd b 128 ≡ (b / 128 % 2) * 128 = and-high b 1 7 in omega (arith, e)
-
 -- the lowest digit's high bit is taken out apart from the others'
 digit : (b x m : ℕ) → b < 256 → bitAnd (b + 256 * x) (128 + 256 * m) ≡ b / 128 * 128 + 256 * bitAnd x m
-digit b x m h =
-    let number : b + 256 * x ≡ x * 256 + b = omega arith in
-    let mask : 128 + 256 * m ≡ m * 256 + 128 = omega arith in
-    let parts : bitAnd (x * 256 + b) (m * 256 + 128) ≡ bitAnd x m * 256 + bitAnd b 128 = and-block 8 x m b 128 h (omega arith) in
-    rw (number, mask, parts, high-bit b h) (omega arith)
+digit b x m h = rw (and-digit b x 128 m h (omega arith), high-bit b h)
 
 -- where nothing is left, each digit is below 128
 pub all-single : (s : List ℕ) → AreBytes s → bitAnd (little s) (highs (length s)) ≡ 0 → AreBelow 128 s
@@ -43,36 +29,6 @@ unfolding little highs
 all-single [] h e i = omega arith
 all-single (b ∷ s) h e zero = omega (arith, e, h 0, digit b (little s) (highs (length s)) (h 0))
 all-single (b ∷ s) h e (suc i) = all-single s (λ j. h (suc j)) (omega (arith, e, digit b (little s) (highs (length s)) (h 0))) i
-
--- ---- numbers of four and of eight bytes, as the code makes them
-
-step : (s : List ℕ) (i j : ℕ) → i + 1 ≡ j → i < length s → drop i s ≡ getD s i 0 ∷ drop j s
-step s i j e h = rw (sym e) (next s i h)
-
-module _ (s : List ℕ) (at : ℕ) where
-  pub number : at + 4 ≤ length s → getD s at 0 + 256 * (getD s (at + 1) 0 + 256 * (getD s (at + 2) 0 + 256 * getD s (at + 3) 0)) ≡ little (take 4 (drop at s))
-  unfolding little
-  number h =
-      rw (step s at (at + 1) refl (omega arith), step s (at + 1) (at + 2) (omega arith) (omega arith), step s (at + 2) (at + 3) (omega arith) (omega arith), step s (at + 3) (at + 4) (omega arith) (omega arith))
-      (omega arith)
-
-  number-lt : AreBytes s → at + 4 ≤ length s → little (take 4 (drop at s)) < 4294967296
-  unfolding inOrder
-  number-lt h l = front-lt le 4 (drop at s) (below-drop 256 at s h) (simp length-drop (omega arith))
-
-module _ (s : List ℕ) (at : ℕ) {low high : ℕ} (bytes : AreBytes s) (inside : at + 8 ≤ length s)
-    (front : low ≡ little (take 4 (drop at s))) (behind : high ≡ little (take 4 (drop (at + 4) s))) where
-  pub both-fit : (4294967296 * high < 2 ^ 64) × (low + 4294967296 * high < 2 ^ 64)
-  both-fit =
-      let l : low < 4294967296 = rw front (number-lt s at bytes (omega arith)) in
-      let h : high < 4294967296 = rw behind (number-lt s (at + 4) bytes (omega arith)) in
-      (omega arith, omega arith)
-
-  pub both-number : low + 4294967296 * high ≡ little (take 8 (drop at s))
-  unfolding little
-  both-number =
-      rw (front, behind, step s at (at + 1) refl (omega arith), step s (at + 1) (at + 2) (omega arith) (omega arith), step s (at + 2) (at + 3) (omega arith) (omega arith), step s (at + 3) (at + 4) (omega arith) (omega arith))
-      (omega arith)
 
 -- ---- past bytes that were tested
 

@@ -7,24 +7,12 @@ ghost use lib.ListN.{length, take, drop};
 ghost use Rattle.wire.specs.Numbers.{little};
 ghost use Rattle.singles.specs.Passed.{Start, Same};
 
-// The number in four bytes, the first of them lowest. The compiler makes one load of it, and of two such numbers too.
-fn four(s: &[u8], at: usize) -> u64
-    requires { ⌜ at + 4 ≤ length (now s) ⌝ }
-    ensures { λ r. ⌜ r ≡ little (take 4 (drop at (now (s .entry)))) ⌝ }
-{
-    let a = s[at] as u64;
-    let b = s[at + 1] as u64;
-    let c = s[at + 2] as u64;
-    let d = s[at + 3] as u64;
-    a + 256 * (b + 256 * (c + 256 * d))
-}
-
 // Whether none of four bytes has its high bit set: then each is a single one.
 fn four_single(s: &[u8], at: usize) -> bool
     requires { ⌜ at + 4 ≤ length (now s) ⌝ }
     ensures { λ r. ⌜ r ≡ eqb (bitAnd (little (take 4 (drop at (now (s .entry))))) 0x8080_8080) 0 ⌝ }
 {
-    let x = four(s, at);
+    let x = eights::four(s, at);
     x & 0x8080_8080 == 0
 }
 
@@ -33,9 +21,7 @@ fn eight_single(s: &[u8], at: usize) -> bool
     requires { ⌜ at + 8 ≤ length (now s) ⌝ }
     ensures { λ r. ⌜ r ≡ eqb (bitAnd (little (take 8 (drop at (now (s .entry))))) 0x8080_8080_8080_8080) 0 ⌝ }
 {
-    let low = four(s, at);
-    let high = four(s, at + 4);
-    let x = low + 4294967296 * high;
+    let x = eights::number(s, at);
     x & 0x8080_8080_8080_8080 == 0
 }
 

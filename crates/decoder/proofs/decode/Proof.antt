@@ -78,17 +78,17 @@ returns-2 c = decoding-short (c .before .before .before .before .before .before 
 add-end : tie.Need-add-end Inv-loop μ-loop
 add-end c = omega arith
 
-sub-put : tie.Need-sub-put Inv-loop μ-loop
-sub-put c = le-add-right _ _
+sub-put-bytes : tie.Need-sub-put-bytes Inv-loop μ-loop
+sub-put-bytes c = le-add-right _ _
 
-part-put-start : tie.Need-part-put-start Inv-loop μ-loop
-part-put-start c = le-add-right _ _
+part-put-bytes-start : tie.Need-part-put-bytes-start Inv-loop μ-loop
+part-put-bytes-start c = le-add-right _ _
 
-part-put-end : tie.Need-part-put-end Inv-loop μ-loop
-part-put-end c = end-inside (c .before .before .before .before .before .before .before .loop .inv) (c .before .before .before .before .before .before .loop-test .taken) (c .before .if4 .left)
+part-put-bytes-end : tie.Need-part-put-bytes-end Inv-loop μ-loop
+part-put-bytes-end c = end-inside (c .before .before .before .before .before .before .before .loop .inv) (c .before .before .before .before .before .before .loop-test .taken) (c .before .if4 .left)
 
-put-requires : tie.Need-put-requires Inv-loop μ-loop
-put-requires c κs =
+put-bytes-requires : tie.Need-put-bytes-requires Inv-loop μ-loop
+put-bytes-requires c κs =
     let l = c .before .before .before .before .before .before .before .before .loop in
     (omega (arith, part-long (l .inv) (c .before .before .before .before .before .before .before .loop-test .taken) (omega arith)), decoding-long (l .inv))
 
@@ -99,7 +99,7 @@ loop-less-3 : tie.Need-loop-less-3 Inv-loop μ-loop
 loop-less-3 c = group-closer (c .before .before .before .before .before .before .before .before .before .before .before .loop .inv) (c .before .before .before .before .before .before .before .before .before .before .loop-test .taken) (c .before .before .before .before .before .if4 .left)
 
 loop-again-3 : tie.Need-loop-again-3 Inv-loop μ-loop
-loop-again-3 c = rw (c .before .before .put .ensures, c .before .before .before .before .before .before .before .before .gap-after .ensures) (decoding-more (c .before .before .before .before .before .before .before .before .before .before .before .loop .inv) (c .before .before .before .before .before .before .before .before .before .before .loop-test .taken) (c .before .before .before .before .before .if4 .left))
+loop-again-3 c = rw (c .before .before .put-bytes .ensures, c .before .before .before .before .before .before .before .before .gap-after .ensures) (decoding-more (c .before .before .before .before .before .before .before .before .before .before .before .loop .inv) (c .before .before .before .before .before .before .before .before .before .before .loop-test .taken) (c .before .before .before .before .before .if4 .left))
 
 same-length-3 : tie.Need-same-length-3 Inv-loop μ-loop
 same-length-3 c = decoding-long (c .before .loop .inv) ∙ sym (decoding-long (decoding-none (c .before .before .before .before .pre)))
@@ -134,10 +134,10 @@ decode-spec =
     same-length-2
     returns-2
     add-end
-    sub-put
-    part-put-start
-    part-put-end
-    put-requires
+    sub-put-bytes
+    part-put-bytes-start
+    part-put-bytes-end
+    put-bytes-requires
     add-len-2
     loop-less-3
     loop-again-3

@@ -2,24 +2,30 @@
 -- Assumes nothing.
 use Prim.Native.Nat.{_-_}
 use native.Mathlib.Omega.{arith}
-use Rattle.framer.proofs.Runs.{Running, running-begin, running-long, running-end, running-zero, running-room, running-next}
+use Rattle.framer.proofs.Runs.{Running, running-begin, running-long, running-end, running-inside, running-zero, running-room, running-next}
 use Rattle.framer.proofs.put_run.Statement.{statement}
 use Rattle.framer.proofs.put_run.Tie as tie
 
 abbrev Inv-loop : tie.InvT-loop
-Inv-loop message from out₀ to len stop i₀ at₀ out i at = Running message from out₀ to stop i at out
+Inv-loop message from out₀ to left most n₀ out n = Running message from out₀ to most n out
 
 abbrev μ-loop : tie.MeasureT-loop
-μ-loop message from out₀ to len stop i₀ at₀ out i at = stop - i
+μ-loop message from out₀ to left most n₀ out n = most - n
 
-latest-end-requires : tie.Need-latest-end-requires Inv-loop μ-loop
-latest-end-requires c κs = c .before .before .pre .within
+sub-left : tie.Need-sub-left Inv-loop μ-loop
+sub-left c = c .before .before .pre .within
+
+most-bytes-requires : tie.Need-most-bytes-requires Inv-loop μ-loop
+most-bytes-requires c κs = tt
 
 loop-holds : tie.Need-loop-holds Inv-loop μ-loop
-loop-holds c = running-begin (c .latest-end .ensures)
+loop-holds c = running-begin (c .before .before .before .pre .within) (c .most-bytes .ensures)
+
+add-b : tie.Need-add-b Inv-loop μ-loop
+add-b c = omega (arith, running-inside (c .before .loop .inv) (c .loop-test .taken))
 
 shared-slice-read-b : tie.Need-shared-slice-read-b Inv-loop μ-loop
-shared-slice-read-b c = omega (arith, c .before .before .loop .inv .stops .inside, c .before .loop-test .taken)
+shared-slice-read-b c = running-inside (c .before .before .loop .inv) (c .before .loop-test .taken)
 
 same-length : tie.Need-same-length Inv-loop μ-loop
 same-length c = running-long (c .before .before .before .loop .inv)
@@ -27,17 +33,17 @@ same-length c = running-long (c .before .before .before .loop .inv)
 returns : tie.Need-returns Inv-loop μ-loop
 returns c = running-zero (c .before .before .before .loop .inv) (c .before .before .loop-test .taken) (c .if1 .taken)
 
+add-out : tie.Need-add-out Inv-loop μ-loop
+add-out c = omega (arith, running-room (c .before .before .before .loop .inv) (c .before .before .loop-test .taken) (c .if1 .left) (c .before .before .before .before .before .before .before .pre .fits))
+
 slice-write-out : tie.Need-slice-write-out Inv-loop μ-loop
 slice-write-out c = running-room (c .before .before .before .loop .inv) (c .before .before .loop-test .taken) (c .if1 .left) (c .before .before .before .before .before .before .before .pre .fits)
 
-add-i : tie.Need-add-i Inv-loop μ-loop
-add-i c = omega arith
-
-add-at : tie.Need-add-at Inv-loop μ-loop
-add-at c = omega arith
+add-n : tie.Need-add-n Inv-loop μ-loop
+add-n c = omega arith
 
 loop-less : tie.Need-loop-less Inv-loop μ-loop
-loop-less c = omega (arith, (c .before .before .loop-test .taken))
+loop-less c = omega (arith, c .before .before .loop-test .taken)
 
 loop-again : tie.Need-loop-again Inv-loop μ-loop
 loop-again c = running-next (c .before .before .before .loop .inv) (c .before .before .loop-test .taken) (c .if1 .left)
@@ -54,14 +60,16 @@ put-run-spec =
     (tie.spec
     Inv-loop
     μ-loop
-    latest-end-requires
+    sub-left
+    most-bytes-requires
     loop-holds
+    add-b
     shared-slice-read-b
     same-length
     returns
+    add-out
     slice-write-out
-    add-i
-    add-at
+    add-n
     loop-less
     loop-again
     same-length-2

@@ -1,4 +1,4 @@
--- `decoder::put` meets its contract: the part's first i bytes are pasted into the array.
+-- `decoder::put_bytes` meets its contract: the part's first i bytes are pasted into the array.
 -- Assumes nothing.
 use mathlib.Core.Path.{_≡_, refl, _∙_}
 use Prim.Native.Nat.{_-_, _≤_}
@@ -9,8 +9,8 @@ use lib.ListN.{length, length-set}
 use lib.Seq.{paste, paste-zero, paste-suc}
 use Rattle.wire.specs.Frames.{room}
 use Rattle.decoder.proofs.Chunks.{pasted}
-use Rattle.decoder.proofs.put.Statement.{statement}
-use Rattle.decoder.proofs.put.Tie as tie
+use Rattle.decoder.proofs.put_bytes.Statement.{statement}
+use Rattle.decoder.proofs.put_bytes.Tie as tie
 
 abbrev Inv-loop : tie.InvT-loop
 Inv-loop array₀ at part i₀ array i = (array ≡ paste array₀ at part i) × (i ≤ length part) × (length array ≡ length array₀)
@@ -53,7 +53,7 @@ returns c =
     let a = c .before .before .args in
     c .before .loop .inv .0 ∙ pasted (now (a .array)) (now (a .part)) (a .at) (c .before .loop .i) (omega arith)
 
-pub put-spec : {M : Type 1} → statement M
-put-spec =
+pub put-bytes-spec : {M : Type 1} → statement M
+put-bytes-spec =
     tie.close
     (tie.spec Inv-loop μ-loop loop-holds add-to shared-slice-read-array slice-write-array add-i loop-less loop-again same-length returns)

@@ -1,11 +1,11 @@
--- `singles::four` meets its contract: four digits in base 256 are the number of their list.
+-- `eights::four` meets its contract: four digits in base 256 are the number of their list.
 -- Assumes nothing.
 use native.Mathlib.Omega.{arith}
 use Prim.Native.Nat.{_+_}
 use borrow.Author.Needs.{needs}
-use Rattle.singles.proofs.Highs.{number}
-use Rattle.singles.proofs.four.Statement.{statement}
-use Rattle.singles.proofs.four.Tie as tie
+use Rattle.eights.proofs.Bytes.{four-number}
+use Rattle.eights.proofs.four.Statement.{statement}
+use Rattle.eights.proofs.four.Tie as tie
 
 shared-slice-read-a : tie.Need-shared-slice-read-a
 shared-slice-read-a c = search needs
@@ -59,7 +59,7 @@ add-result-3 : tie.Need-add-result-3
 add-result-3 c = omega (arith, c .shared-slice-known4 .given (c .before .before .before .before .args .at + 3), c .shared-slice-known4 .given (c .before .before .before .before .args .at + 2), c .shared-slice-known4 .given (c .before .before .before .before .args .at + 1), c .shared-slice-known4 .given (c .before .before .before .before .args .at))
 
 returns : tie.Need-returns
-returns c = number _ _ (c .before .before .before .before .pre)
+returns c = four-number _ _ (c .before .before .before .before .pre)
 
 pub four-spec : {M : Type 1} → statement M
 four-spec =

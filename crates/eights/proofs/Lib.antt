@@ -1,0 +1,3 @@
+-- The laws of bytes as a number.
+pub mod Bytes
+pub mod Digits

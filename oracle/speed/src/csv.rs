@@ -1,6 +1,6 @@
-//! CSV rows exported and imported, beside plain Rust by its own formatting and, tuned by hand, in the faster of two forms
+//! CSV rows exported and imported, beside plain Rust by its own formatting and parsing and, tuned by hand, in the faster of two forms
 //! (`rows`). All get the table's bytes in each call: ours checks them, plain Rust only looks up the kinds in them.
-use crate::rows::{export_copied, export_formatted, export_measured, import_copied, import_measured, Refused};
+use crate::rows::{export_copied, export_formatted, export_measured, import_copied, import_measured, import_parsed, Refused};
 use crate::timing::{race, side};
 use oracle_driver::csv::{self, numbers, Value};
 use oracle_driver::rng::Rng;
@@ -72,8 +72,8 @@ fn raced<const N: usize>(calls: [Call; N], table: &[u8], input: &[u8], right: &[
 }
 
 pub fn report() {
-    println!("| Row of | export: ours, ns a field | Rust's formatting | ratio | tuned | ratio | import: ours | tuned | ratio |");
-    println!("|---|---|---|---|---|---|---|---|---|");
+    println!("| Row of | export: ours, ns a field | Rust's formatting | ratio | tuned | ratio | import: ours | Rust's parsing | ratio | tuned | ratio |");
+    println!("|---|---|---|---|---|---|---|---|---|---|---|");
     for (name, kinds, len) in [
         ("200 u32", vec![U32; 200], 0),
         ("200 u8", vec![U8; 200], 0),
@@ -91,7 +91,8 @@ pub fn report() {
         let [ours, formatted, measured, copied] =
             raced([export, export_formatted, export_measured, export_copied], &table, &message, &row);
         print!("| {name} | {:.1} |{}{}", ours / fields, beside(ours, formatted), beside(ours, measured.min(copied)));
-        let [ours, measured, copied] = raced([import, import_measured, import_copied], &table, &row, &message);
-        println!(" {:.1} |{}", ours / fields, beside(ours, measured.min(copied)));
+        let [ours, parsed, measured, copied] =
+            raced([import, import_parsed, import_measured, import_copied], &table, &row, &message);
+        println!(" {:.1} |{}{}", ours / fields, beside(ours, parsed), beside(ours, measured.min(copied)));
     }
 }

@@ -316,9 +316,21 @@ fn expect(row: &[u8], at: usize, byte: u8) -> Result<usize, usize> {
     }
 }
 
+/// A number of so many digits, by Rust's own parsing; none if it has a zero in front or is too large.
+#[inline]
+fn parsed(row: &[u8], start: usize, most: u64) -> Option<(u64, usize)> {
+    let left = row.get(start..)?;
+    let len = left.iter().position(|byte| !byte.is_ascii_digit()).unwrap_or(left.len());
+    let x = from_utf8(&left[..len]).ok()?.parse().ok().filter(|&x| x <= most)?;
+    (len == 1 || left[0] != b'0').then_some((x, start + len))
+}
+
 /// A number up to so large, without a zero in front; and the place behind it.
 #[inline]
-fn number(row: &[u8], start: usize, most: u64) -> Result<(u64, usize), usize> {
+fn number<const PARSE: bool>(row: &[u8], start: usize, most: u64) -> Result<(u64, usize), usize> {
+    if let Some(found) = PARSE.then(|| parsed(row, start, most)).flatten() {
+        return Ok(found);
+    }
     let (mut x, mut at) = (0, start);
     while let Some(digit) = row.get(at).map(|byte| byte.wrapping_sub(b'0')).filter(|&digit| digit < 10) {
         let digit = u64::from(digit);
@@ -336,14 +348,14 @@ fn number(row: &[u8], start: usize, most: u64) -> Result<(u64, usize), usize> {
 
 /// The same from one less than minus so much on; there is no -0.
 #[inline]
-fn integer(row: &[u8], start: usize, most: i64) -> Result<(i64, usize), usize> {
+fn integer<const PARSE: bool>(row: &[u8], start: usize, most: i64) -> Result<(i64, usize), usize> {
     if row.get(start) != Some(&b'-') {
-        return number(row, start, most as u64).map(|(x, at)| (x as i64, at));
+        return number::<PARSE>(row, start, most as u64).map(|(x, at)| (x as i64, at));
     }
     if row.get(start + 1) == Some(&b'0') {
         return Err(start + 1);
     }
-    number(row, start + 1, most as u64 + 1).map(|(x, at)| ((x as i64).wrapping_neg(), at))
+    number::<PARSE>(row, start + 1, most as u64 + 1).map(|(x, at)| ((x as i64).wrapping_neg(), at))
 }
 
 /// Where bytes between quotes stop being a text.
@@ -435,9 +447,9 @@ fn import_bytes(row: &[u8], at: usize, out: &mut impl Out) -> Result<usize, usiz
 
 /// The field that stands at a place of the row: the place behind it, or where the row stops.
 #[inline]
-fn import_field(kind: u8, row: &[u8], at: usize, out: &mut impl Out) -> Result<usize, usize> {
-    let unsigned = |most: u64| number(row, at, most);
-    let signed = |most: i64| integer(row, at, most);
+fn import_field<const PARSE: bool>(kind: u8, row: &[u8], at: usize, out: &mut impl Out) -> Result<usize, usize> {
+    let unsigned = |most: u64| number::<PARSE>(row, at, most);
+    let signed = |most: i64| integer::<PARSE>(row, at, most);
     let unsigned_put = |(x, at): (u64, usize), out: &mut _| {
         put_varint(x, out);
         at
@@ -466,18 +478,18 @@ fn import_field(kind: u8, row: &[u8], at: usize, out: &mut impl Out) -> Result<u
         CHAR => import_char(row, at, out)?,
         STR => import_text(row, at, out)?,
         BYTES => import_bytes(row, at, out)?,
-        _ => return import_fixed(kind, row, at, out),
+        _ => return import_fixed::<PARSE>(kind, row, at, out),
     })
 }
 
-fn import_fixed(kind: u8, row: &[u8], at: usize, out: &mut impl Out) -> Result<usize, usize> {
+fn import_fixed<const PARSE: bool>(kind: u8, row: &[u8], at: usize, out: &mut impl Out) -> Result<usize, usize> {
     let (x, at) = match kind {
-        20 | 26 => integer(row, at, i16::MAX.into()).map(|(x, at)| (x as u64, at))?,
-        21 | 27 => integer(row, at, i32::MAX.into()).map(|(x, at)| (x as u64, at))?,
-        22 | 28 => integer(row, at, i64::MAX).map(|(x, at)| (x as u64, at))?,
-        23 | 29 => number(row, at, u16::MAX.into())?,
-        24 | 30 | F32 => number(row, at, u32::MAX.into())?,
-        _ => number(row, at, u64::MAX)?,
+        20 | 26 => integer::<PARSE>(row, at, i16::MAX.into()).map(|(x, at)| (x as u64, at))?,
+        21 | 27 => integer::<PARSE>(row, at, i32::MAX.into()).map(|(x, at)| (x as u64, at))?,
+        22 | 28 => integer::<PARSE>(row, at, i64::MAX).map(|(x, at)| (x as u64, at))?,
+        23 | 29 => number::<PARSE>(row, at, u16::MAX.into())?,
+        24 | 30 | F32 => number::<PARSE>(row, at, u32::MAX.into())?,
+        _ => number::<PARSE>(row, at, u64::MAX)?,
     };
     match kind {
         20 | 23 => out.put(&(x as u16).to_le_bytes()),
@@ -490,13 +502,13 @@ fn import_fixed(kind: u8, row: &[u8], at: usize, out: &mut impl Out) -> Result<u
     Ok(at)
 }
 
-fn import_row(table: &[u8], row: &[u8], out: &mut impl Out) -> Result<(), Refused> {
+fn import_row<const PARSE: bool>(table: &[u8], row: &[u8], out: &mut impl Out) -> Result<(), Refused> {
     let mut at = 0;
     for (i, kind) in kinds(table).enumerate() {
         if i > 0 {
             at = expect(row, at, b',').map_err(|at| (21, at))?;
         }
-        at = import_field(kind, row, at, out).map_err(|at| (21, at))?;
+        at = import_field::<PARSE>(kind, row, at, out).map_err(|at| (21, at))?;
     }
     let end = expect(row, at, b'\r').and_then(|at| expect(row, at, b'\n')).map_err(|at| (21, at))?;
     if end < row.len() {
@@ -508,17 +520,26 @@ fn import_row(table: &[u8], row: &[u8], out: &mut impl Out) -> Result<(), Refuse
 /// Measured first, and then written in its place.
 pub fn import_measured(table: &[u8], row: &[u8], out: &mut [u8]) -> Result<usize, Refused> {
     let mut len = Len(0);
-    import_row(table, row, &mut len)?;
+    import_row::<false>(table, row, &mut len)?;
     let out = out.get_mut(..len.0).ok_or(FULL)?;
-    import_row(table, row, &mut Front(out, 0))?;
+    import_row::<false>(table, row, &mut Front(out, 0))?;
     Ok(len.0)
 }
 
 /// Written elsewhere, where there is room for the message of any row so long, and copied.
 pub fn import_copied(table: &[u8], row: &[u8], out: &mut [u8]) -> Result<usize, Refused> {
+    import_elsewhere::<false>(table, row, out)
+}
+
+/// The same by Rust's own parsing of numbers.
+pub fn import_parsed(table: &[u8], row: &[u8], out: &mut [u8]) -> Result<usize, Refused> {
+    import_elsewhere::<true>(table, row, out)
+}
+
+fn import_elsewhere<const PARSE: bool>(table: &[u8], row: &[u8], out: &mut [u8]) -> Result<usize, Refused> {
     let mut room = vec![0; 10 * kinds(table).len() + row.len()];
     let mut front = Front(&mut room, 0);
-    import_row(table, row, &mut front)?;
+    import_row::<PARSE>(table, row, &mut front)?;
     let len = front.1;
     out.get_mut(..len).ok_or(FULL)?.copy_from_slice(&room[..len]);
     Ok(len)

@@ -1,6 +1,8 @@
 //! CSV rows exported and imported, beside plain Rust by its own formatting and parsing and, tuned by hand, in the faster of two forms
 //! (`rows`). All get the table's bytes in each call: ours checks them, plain Rust only looks up the kinds in them.
-use crate::rows::{export_copied, export_formatted, export_measured, import_copied, import_measured, import_parsed, Refused};
+use crate::rows::{
+    export_copied, export_formatted, export_measured, import_copied, import_measured, import_parsed, Refused,
+};
 use crate::timing::{race, side};
 use oracle_driver::csv::{self, numbers, Value};
 use oracle_driver::rng::Rng;

@@ -34,7 +34,8 @@ pub fn race<const N: usize>(mut sides: [Side; N]) -> [f64; N] {
 /// The race so asked for, `RACE SIDE CALLS`, is these calls of that side and no more; any other race is none.
 fn count(asked: &str, sides: &mut [Side]) {
     static RACE: AtomicU32 = AtomicU32::new(0);
-    let [race, side, calls] = [0, 1, 2].map(|i| asked.split(' ').nth(i).and_then(|word| word.parse::<u32>().ok()).expect("RACE SIDE CALLS"));
+    let [race, side, calls] =
+        [0, 1, 2].map(|i| asked.split(' ').nth(i).and_then(|word| word.parse::<u32>().ok()).expect("RACE SIDE CALLS"));
     if RACE.fetch_add(1, Ordering::Relaxed) == race {
         sides[side as usize](calls);
     }

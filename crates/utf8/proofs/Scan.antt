@@ -7,10 +7,10 @@ use Prim.Native.Nat.{ℕ, zero, suc, _+_, _-_, _<_, _≤_}
 use native.Mathlib.Omega.{arith}
 use lib.ListN.{length, getD, drop, length-drop}
 use lib.Dec.{leb}
-use borrow.Author.Tests.{lt-ltb, le-ltb, not-true, not-false}
-use Rattle.wire.specs.Tests.{both}
+use borrow.Author.Tests.{leb-true, lt-ltb, le-ltb, ne-eqb, not-true, not-false}
+use Rattle.wire.specs.Tests.{pick, both}
 use Rattle.wire.specs.Text.{widthOf, lowOf, highOf, utf8F, utf8}
-use Rattle.laws.proofs.Splits.{by-test, by-lt}
+use Rattle.laws.proofs.Splits.{by-test, by-lt, both-left, both-right}
 use Rattle.laws.proofs.Parts.{next}
 use Rattle.laws.proofs.Utf8.{width-none, width-two, width-three, width-four, width-high}
 use Rattle.singles.specs.Passed.{Same}
@@ -68,11 +68,46 @@ two b l e z =
     (λ l. by-lt b 0xf0 (λ h. omega (arith, width-three b l h))
     (λ l. by-lt b 0xf5 (λ h. omega (arith, width-four b l h)) (λ l. absurd (z (omega (arith, width-high b l)))))))
 
-module _ {s : List ℕ} {at w : ℕ} {widths : List (List ℕ)} (l : Lead s at widths) (e : w ≡ widthOf (getD s at 0)) where
-  pub no-lead : w ≡ 0 → utf8 (drop at s) ≡ false
+module _ {s : List ℕ} {at w : ℕ} (e : w ≡ widthOf (getD s at 0)) where
+  pub no-lead : {widths : List (List ℕ)} → Lead s at widths → w ≡ 0 → utf8 (drop at s) ≡ false
   unfolding utf8 utf8F both
-  no-lead z = rw (next s at (l .inside), le-ltb 0 (widthOf (getD s at 0)) (omega arith))
+  no-lead l z = rw (next s at (l .inside), le-ltb 0 (widthOf (getD s at 0)) (omega arith))
 
-  pub opens : (w ≡ 0 → ⊥) → Scan s at (w - 1) (lowOf (getD s at 0)) (highOf (getD s at 0)) (at + 1)
+  pub opens : at < length s → (w ≡ 0 → ⊥) → Scan s at (w - 1) (lowOf (getD s at 0)) (highOf (getD s at 0)) (at + 1)
   unfolding utf8 utf8F both
-  opens z = record { same = rw (next s at (l .inside), e, lt-ltb 0 (widthOf (getD s at 0)) (omega (arith, z))) }
+  opens h z = record { same = rw (next s at h, e, lt-ltb 0 (widthOf (getD s at 0)) (omega (arith, z))) }
+
+-- ---- past a whole sequence
+
+-- these lead bytes leave all of 80 to BF to the second
+whole : (b : ℕ) → (b ≡ 0xe0 → ⊥) → b < 0xed → (lowOf b ≡ 0x80) × (highOf b ≡ 0xbf)
+unfolding lowOf highOf pick
+whole b n h =
+    (rw (ne-eqb b 0xe0 n, ne-eqb b 0xf0 (λ e. omega arith)), rw (ne-eqb b 0xed (λ e. omega arith), ne-eqb b 0xf4 (λ e. omega arith)))
+
+-- what a test of a range says
+within : {ok : Bool} {b low high : ℕ} → ok ≡ both (leb low b) (leb b high) → not ok ≡ false → (low ≤ b) × (b ≤ high)
+within {ok} e f =
+    let t = sym e ∙ not-false ok f in
+    (leb-true _ _ (both-left _ _ t), leb-true _ _ (both-right _ _ t))
+
+module _ {s : List ℕ} {from i : ℕ} (r : Same s from i) where
+  starts : {w : ℕ} → i < length s → widthOf (getD s i 0) ≡ w → 0 < w → (getD s i 0 ≡ 0xe0 → ⊥) → getD s i 0 < 0xed → Scan s from (w - 1) 0x80 0xbf (i + 1)
+  starts h e some n m =
+      let range = whole (getD s i 0) n m in
+      record { same = rw (range .0, range .1) at (opens {s = s} (sym e) h (λ z. omega arith) .same) ∙ r .same }
+
+  module _ {lead second : Bool} (f : not lead ≡ false) (e2 : second ≡ both (leb 0x80 (getD s (i + 1) 0)) (leb (getD s (i + 1) 0) 0xbf)) (f2 : not second ≡ false) where
+    pub past-two : i + 2 ≤ length s → {low high : ℕ} → lead ≡ both (leb low (getD s i 0)) (leb (getD s i 0) high) → 0xc2 ≤ low → high < 0xe0 → Same s from (i + 2)
+    past-two h {low} {high} e l m =
+        let b : (low ≤ getD s i 0) × (getD s i 0 ≤ high) = within e f in
+        let start = starts (omega arith) (width-two _ (omega arith) (omega arith)) (omega arith) (λ q. omega arith) (omega arith) in
+        done (goes-on start (omega arith) 0 refl e2 (i + 2) (omega arith) f2) _ refl refl (omega (arith, r .up)) h
+
+    pub past-three : i + 3 ≤ length s → {low high : ℕ} → lead ≡ both (leb low (getD s i 0)) (leb (getD s i 0) high) → 0xe0 < low → high < 0xed → {third : Bool}
+        → third ≡ both (leb 0x80 (getD s (i + 2) 0)) (leb (getD s (i + 2) 0) 0xbf) → not third ≡ false → Same s from (i + 3)
+    past-three h {low} {high} e l m e3 f3 =
+        let b : (low ≤ getD s i 0) × (getD s i 0 ≤ high) = within e f in
+        let start = starts (omega arith) (width-three _ (omega arith) (omega arith)) (omega arith) (λ q. omega arith) (omega arith) in
+        let second = goes-on start (omega arith) 1 refl e2 (i + 2) (omega arith) f2 in
+        done (goes-on second (omega arith) 0 refl e3 (i + 3) (omega arith) f3) _ refl refl (omega (arith, r .up)) h

@@ -7,7 +7,7 @@ ghost use lib.ListN.{drop};
 ghost use Rattle.wire.specs.Tests.{both};
 ghost use Rattle.wire.specs.Text.{widthOf, utf8, firstChar, isChar};
 ghost use Rattle.wire.specs.Shape.{char};
-ghost use Rattle.singles.specs.Passed.{Start};
+ghost use Rattle.singles.specs.Passed.{Start, Same};
 ghost use Rattle.utf8.specs.Scan.{AreWidths, isSecond, Lead, After};
 ghost use Rattle.utf8.specs.Chars.{leadOf, overOf, Form};
 
@@ -67,13 +67,57 @@ fn is_second(lead: u8, b: u8) -> bool
     }
 }
 
+// A place behind sequences of two bytes only. Where one stands others often follow, and these want no table.
+fn after_twos(s: &[u8], from: usize) -> usize
+    requires { ⌜ Start (now s) from ⌝ }
+    ensures { λ r. ⌜ Same (now (s .entry)) from r ⌝ }
+{
+    let mut i = from;
+    while 2 <= s.len() - i {
+        let lead = is_in(s[i], 0xc2, 0xdf);
+        if !lead {
+            return i;
+        }
+        let second = is_in(s[i + 1], 0x80, 0xbf);
+        if !second {
+            return i;
+        }
+        i = i + 2;
+    }
+    i
+}
+
+// The same of three bytes. Lead bytes from E1 to EC leave all of 80 to BF to the second.
+fn after_threes(s: &[u8], from: usize) -> usize
+    requires { ⌜ Start (now s) from ⌝ }
+    ensures { λ r. ⌜ Same (now (s .entry)) from r ⌝ }
+{
+    let mut i = from;
+    while 3 <= s.len() - i {
+        let lead = is_in(s[i], 0xe1, 0xec);
+        if !lead {
+            return i;
+        }
+        let second = is_in(s[i + 1], 0x80, 0xbf);
+        if !second {
+            return i;
+        }
+        let third = is_in(s[i + 2], 0x80, 0xbf);
+        if !third {
+            return i;
+        }
+        i = i + 3;
+    }
+    i
+}
+
 // How a sequence ends: at the place behind it, or nowhere, where a byte lacks or is out of its range.
 enum Sequence {
     Ends { place: usize },
     Bad,
 }
 
-// The sequence whose lead byte stands at a place. No sequence starts with 80 to C1 or with F5 to FF.
+// The sequence whose lead byte stands at a place, and others like it behind it. No sequence starts with 80 to C1 or with F5 to FF.
 // The place is a sum with a literal: with `wide`, the next sequence would wait for the table.
 fn after_lead(s: &[u8], at: usize, widths: &[[u8; 16]; 16]) -> Sequence
     requires { ⌜ Lead (now s) at (now widths) ⌝ }
@@ -92,7 +136,7 @@ fn after_lead(s: &[u8], at: usize, widths: &[[u8; 16]; 16]) -> Sequence
         return Sequence::Bad;
     }
     if wide == 2 {
-        let place = at + 2;
+        let place = after_twos(s, at + 2);
         return Sequence::Ends { place };
     }
     let third = is_in(s[at + 2], 0x80, 0xbf);
@@ -100,7 +144,7 @@ fn after_lead(s: &[u8], at: usize, widths: &[[u8; 16]; 16]) -> Sequence
         return Sequence::Bad;
     }
     if wide == 3 {
-        let place = at + 3;
+        let place = after_threes(s, at + 3);
         return Sequence::Ends { place };
     }
     let fourth = is_in(s[at + 3], 0x80, 0xbf);
@@ -116,7 +160,8 @@ fn is_rest(s: &[u8], from: usize) -> bool
     requires { ⌜ Start (now s) from ⌝ }
     ensures { λ r. ⌜ r ≡ utf8 (drop from (now (s .entry))) ⌝ }
 {
-    let widths = all_widths();
+    // the constant itself: what `all_widths` returns would be copied here
+    let widths = WIDTHS;
     let mut i = from;
     while i < s.len() {
         let b = s[i];

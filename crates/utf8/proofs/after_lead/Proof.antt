@@ -8,7 +8,8 @@ use denote.Ref.{now}
 use borrow.Author.Needs.{needs}
 use Rattle.wire.specs.Text.{lowOf, highOf}
 use Rattle.laws.proofs.Utf8.{width-few}
-use Rattle.utf8.specs.Scan.{isSecond, Lead}
+use Rattle.singles.proofs.Passed.{on}
+use Rattle.utf8.specs.Scan.{isSecond}
 use Rattle.utf8.proofs.Scan.{Scan, two, no-lead, opens, short, refuses, goes-on, done}
 use Rattle.utf8.proofs.after_lead.Statement.{statement}
 use Rattle.utf8.proofs.after_lead.Tie as tie
@@ -23,7 +24,7 @@ cast-wide : tie.Need-cast-wide
 cast-wide c = search needs
 
 returns : tie.Need-returns
-returns c = no-lead (c .before .before .before .before .pre) (c .before .width .ensures) (c .if1 .taken)
+returns c = no-lead (c .before .width .ensures) (c .before .before .before .before .pre) (c .if1 .taken)
 
 sub-if2 : tie.Need-sub-if2
 sub-if2 c = search needs
@@ -31,7 +32,7 @@ sub-if2 c = search needs
 -- behind a lead byte
 opened : (c : tie.Else1) → let a = c .before .before .before .before .args in let lead = getD (now (a .s)) (a .at) 0 in
     Scan (now (a .s)) (a .at) (c .before .width .result - 1) (lowOf lead) (highOf lead) (a .at + 1)
-opened c = opens (c .before .before .before .before .pre) (c .before .width .ensures) (c .if1 .left)
+opened c = opens (c .before .width .ensures) (c .before .before .before .before .pre .inside) (c .if1 .left)
 
 wide-two : (c : tie.Else1) → 2 ≤ c .before .width .result
 wide-two c = two _ (c .before .before .before .before .pre .high) (c .before .width .ensures) (c .if1 .left)
@@ -58,11 +59,15 @@ unfolding isSecond
 second c =
     goes-on (opened (c .before .before .before .before)) (omega (arith, wide-two (c .before .before .before .before))) (c .before .before .before .before .before .width .result - 2) (omega (arith, wide-two (c .before .before .before .before))) (c .before .is-second .ensures) _ (omega arith) (c .if3 .left)
 
-add-place : tie.Need-add-place
-add-place c = search needs
+add-after-twos : tie.Need-add-after-twos
+add-after-twos c = search needs
+
+after-twos-requires : tie.Need-after-twos-requires
+after-twos-requires c κs = search needs
 
 returns-4 : tie.Need-returns-4
-returns-4 c = (omega arith, done (second (c .before)) _ (omega arith) (omega arith) (omega arith) (omega arith))
+returns-4 c =
+    (omega arith, on (done (second (c .before .before)) _ (omega arith) (omega arith) (omega arith) (omega arith)) (c .after-twos .ensures))
 
 add-is-in : tie.Need-add-is-in
 add-is-in c = search needs
@@ -84,11 +89,15 @@ third : (c : tie.Else5) → let a = c .before .before .before .before .before .b
 third c =
     goes-on (second (c .before .before .before .before)) (omega (arith, wide-three (c .before .before .before))) (c .before .before .before .before .before .before .before .before .before .width .result - 3) (omega (arith, wide-three (c .before .before .before))) (c .before .is-in .ensures) _ (omega arith) (c .if5 .left)
 
-add-place-2 : tie.Need-add-place-2
-add-place-2 c = search needs
+add-after-threes : tie.Need-add-after-threes
+add-after-threes c = search needs
+
+after-threes-requires : tie.Need-after-threes-requires
+after-threes-requires c κs = search needs
 
 returns-6 : tie.Need-returns-6
-returns-6 c = (omega arith, done (third (c .before)) _ (omega arith) (omega arith) (omega arith) (omega arith))
+returns-6 c =
+    (omega arith, on (done (third (c .before .before)) _ (omega arith) (omega arith) (omega arith) (omega arith)) (c .after-threes .ensures))
 
 add-is-in-2 : tie.Need-add-is-in-2
 add-is-in-2 c = search needs
@@ -106,8 +115,8 @@ returns-7 : tie.Need-returns-7
 returns-7 c =
     refuses (third (c .before .before .before .before)) (omega (arith, wide-four (c .before .before .before))) 0 (omega (arith, wide-four (c .before .before .before))) (c .before .is-in2 .ensures) (c .if7 .taken)
 
-add-place-3 : tie.Need-add-place-3
-add-place-3 c = search needs
+add-place : tie.Need-add-place
+add-place c = search needs
 
 returns-8 : tie.Need-returns-8
 returns-8 c =
@@ -129,17 +138,19 @@ after-lead-spec =
     shared-slice-read-is-second
     is-second-requires
     returns-3
-    add-place
+    add-after-twos
+    after-twos-requires
     returns-4
     add-is-in
     shared-slice-read-is-in
     is-in-requires
     returns-5
-    add-place-2
+    add-after-threes
+    after-threes-requires
     returns-6
     add-is-in-2
     shared-slice-read-is-in-2
     is-in-requires-2
     returns-7
-    add-place-3
+    add-place
     returns-8)

@@ -5,9 +5,12 @@ use Prim.Native.Nat.{_-_}
 use native.Mathlib.Omega.{arith}
 use lib.ListN.{length}
 use borrow.Author.Needs.{needs}
+use Rattle.wire.specs.Tests.{pick}
+use Rattle.wire.specs.Text.{widthOf}
 use Rattle.singles.specs.Passed.{Same}
 use Rattle.utf8.specs.Scan.{After}
 use Rattle.singles.proofs.Passed.{here, on, single, all-read}
+use Rattle.utf8.proofs.Widths.{tested}
 use Rattle.utf8.proofs.is_rest.Statement.{statement}
 use Rattle.utf8.proofs.is_rest.Tie as tie
 
@@ -16,9 +19,6 @@ Inv-loop s from widths i₀ i = Same s from i
 
 abbrev μ-loop : tie.MeasureT-loop
 μ-loop s from widths i₀ i = length s - i
-
-all-widths-requires : tie.Need-all-widths-requires Inv-loop μ-loop
-all-widths-requires c κs = search needs
 
 loop-holds : tie.Need-loop-holds Inv-loop μ-loop
 loop-holds c = here _ _ (search needs)
@@ -42,7 +42,8 @@ loop-again : tie.Need-loop-again Inv-loop μ-loop
 loop-again c = on (single _ refl (omega arith) (omega arith) (c .before .before .before .before .before .loop .inv)) (on (c .before .after-eights .ensures) (c .after-ascii .ensures))
 
 after-lead-requires : tie.Need-after-lead-requires Inv-loop μ-loop
-after-lead-requires c κs = search needs
+unfolding widthOf pick
+after-lead-requires c κs = record { inside = search needs; high = search needs; table = tested _ refl }
 
 enum-known-got : tie.Need-enum-known-got Inv-loop μ-loop
 enum-known-got c = search needs
@@ -68,7 +69,6 @@ is-rest-spec =
     (tie.spec
     Inv-loop
     μ-loop
-    all-widths-requires
     loop-holds
     shared-slice-read-b
     add-after-eights

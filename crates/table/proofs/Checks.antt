@@ -5,32 +5,33 @@ use mathlib.Core.Bool.{Bool, true, false}
 use mathlib.Core.List.{List}
 use Prim.Native.Nat.{ℕ, suc, max, _+_, _-_, _<_, _≤_}
 use native.Mathlib.Omega.{arith}
-use lib.Dec.{ltb}
+use lib.Dec.{eqb, ltb}
 use lib.ListN.{length, getD}
-use borrow.Author.Tests.{eqb-true, eq-eqb, ne-eqb, le-leb, lt-leb, lt-ltb, le-ltb}
+use borrow.Author.Tests.{eqb-true, ltb-true, eq-eqb, ne-eqb, le-leb, lt-leb, lt-ltb, le-ltb}
 use Rattle.wire.specs.declared.Refusal.the-variants.{Trailer, Record}
 use Rattle.wire.specs.declared.Ending.{Ending}
 use Rattle.wire.specs.declared.Layout.{Layout}
 use Rattle.wire.specs.declared.Checked.the-variants.{Good, Bad}
 use Rattle.wire.specs.Tests.{pick, given, both}
-use Rattle.wire.specs.Table.{u16At, TableForm, first, second, sizeOf, markOf, tableForm, endingAt, layoutAt, goodTrailer, kinds, isKind, kindOf, nodeAt, recordOf, below, goodKind, goodNode, chainOf, shortChain, goodIn, checkFrom, checkAt, checkAs, check}
-use Rattle.laws.proofs.Splits.{by-lt, by-le, by-eq, both-left}
+use Rattle.wire.specs.Table.{u16At, u32At, TableForm, first, second, sizeOf, markOf, tableForm, endingAt, layoutAt, goodTrailer, kinds, isKind, kindOf, nodeAt, recordOf, below, goodKind, goodNode, chainOf, shortChain, goodIn, checkFrom, checkAt, checkAs, check}
+use Rattle.laws.proofs.Splits.{by-lt, by-le, by-eq, both-left, both-right}
 use Rattle.table.specs.Parts.{badAt}
+use Rattle.table.proofs.Numbered.{kinded-low}
 
 -- ---- a node
 
--- two bytes as one number: the first alone, or more than a byte holds
+-- two bytes as one number: the first alone, or no kind's
 low-pair : (s : List ℕ) (at : ℕ) → u16At s at < 256 → (getD s (at + 1) 0 ≡ 0) × (u16At s at ≡ getD s at 0)
 unfolding u16At
 low-pair s at h = (omega arith, omega arith)
 
-high-pair : (s : List ℕ) (at : ℕ) → 256 ≤ u16At s at → getD s (at + 1) 0 ≡ 0 → 32 ≤ getD s at 0
+high-pair : (s : List ℕ) (at : ℕ) → 31 < u16At s at → getD s (at + 1) 0 ≡ 0 → 32 ≤ getD s at 0
 unfolding u16At
 high-pair s at h e = omega (arith, e)
 
 -- a record that is read: the kind's number and the zero byte as one number, and then a and b
 module _ (s : List ℕ) (l : Layout) (i at head : ℕ) (here : at ≡ recordOf l i) (rh : head ≡ u16At s at) where
-  pub node-odd : 256 ≤ head → false ≡ goodNode s l i (nodeAt s (recordOf l i))
+  pub node-odd : 31 < head → false ≡ goodNode s l i (nodeAt s (recordOf l i))
   unfolding goodNode nodeAt isKind kinds both
   node-odd h =
       rw (← here)
@@ -53,6 +54,18 @@ module _ (s : List ℕ) (l : Layout) (i at head : ℕ) (here : at ≡ recordOf l
       go true y = refl
       go false y = refl
 
+-- a leaf, whose record is the kind's number and zeros
+pub node-leaf : (s : List ℕ) (l : Layout) (i at : ℕ) → at ≡ recordOf l i → both (ltb (u32At s at) 15) (eqb (u16At s (at + 4)) 0) ≡ true
+    → true ≡ goodNode s l i (nodeAt s (recordOf l i))
+unfolding u32At both
+node-leaf s l i at here e =
+    let front = ltb (u32At s at) 15 in
+    let last = eqb (u16At s (at + 4)) 0 in
+    let low = ltb-true (u32At s at) 15 (both-left front last e) in
+    let behind = eqb-true (u16At s (at + 4)) 0 (both-right front last e) in
+    kinded-low s l i (u16At s at) 0 0 (omega arith)
+    ∙ node-even s l i at (u16At s at) here refl 0 0 (omega arith) (sym behind) (omega arith)
+
 -- ---- the numbers of children
 
 module _ (s : List ℕ) (i at left : ℕ) where
@@ -64,6 +77,20 @@ module _ (s : List ℕ) (i at left : ℕ) where
   pub below-start : 0 < left → both (ltb 0 i) (below s i at left) ≡ below s i at left
   unfolding both
   below-start h = by-lt 0 i (λ lo. rw (lt-ltb 0 i lo)) (λ hi. rw (le-ltb 0 i hi, more h, le-ltb (u16At s at) i (omega arith)))
+
+  -- number by number
+  module _ (child : ℕ) (c : child ≡ u16At s at) (h : 0 < left) where
+    pub below-no : i ≤ child → false ≡ below s i at left
+    unfolding both
+    below-no g = rw (more h, ← c, le-ltb child i g)
+
+    pub below-next : child < i → below s i at left ≡ below s i (at + 2) (left - 1)
+    unfolding both
+    below-next g = rw (more h, ← c, lt-ltb child i g)
+
+  pub below-none : left ≤ 0 → true ≡ below s i at left
+  unfolding below
+  below-none h = let e : left ≡ 0 = omega arith in rw e
 
   max-below : (a b : ℕ) (x : Bool) → both (ltb (max a b) i) x ≡ both (ltb a i) (both (ltb b i) x)
   unfolding both

@@ -1,12 +1,12 @@
 -- What a kind's number tells of a record, by the ranges of the code's matches.
 -- Assumes nothing.
-use mathlib.Core.Path.{_≡_, refl}
+use mathlib.Core.Path.{_≡_, refl, _∙_}
 use mathlib.Core.Bool.{Bool, true, false}
 use mathlib.Core.List.{List}
-use Prim.Native.Nat.{ℕ, _+_, _*_, _<_}
+use Prim.Native.Nat.{ℕ, _+_, _*_, _<_, _≤_}
 use native.Mathlib.Omega.{arith}
 use lib.Dec.{eqb, ltb, leb}
-use borrow.Author.Tests.{eq-eqb, ne-eqb, le-leb, lt-ltb, le-ltb, ltb-true}
+use borrow.Author.Tests.{eq-eqb, ne-eqb, le-leb, lt-leb, lt-ltb, ltb-true}
 use Rattle.wire.specs.declared.Layout.{Layout}
 use Rattle.wire.specs.Tests.{pick, given, both}
 use Rattle.wire.specs.Shape.{Plain, Content, Kind, plain, pooled}
@@ -20,7 +20,7 @@ use Rattle.table.specs.Parts.{listed, followed}
 -- ---- a record
 
 -- a struct without fields
-pub no-fields : (s : List ℕ) (l : Layout) (i a b : ℕ) → b ≡ 0 → eqb a 0 ≡ both (pick (eqb b 0) (eqb a 0) true) (listed s l i a b)
+no-fields : (s : List ℕ) (l : Layout) (i a b : ℕ) → b ≡ 0 → eqb a 0 ≡ both (pick (eqb b 0) (eqb a 0) true) (listed s l i a b)
 unfolding pick both listed below
 no-fields s l i a b e =
     by-eq a 0 (λ f. rw (e, f, le-leb 0 (l .places) (omega arith))) (λ f. rw (eq-eqb b 0 e, ne-eqb a 0 f))
@@ -44,10 +44,6 @@ module _ (s : List ℕ) (l : Layout) (i k a b : ℕ) where
   unfolding isKind kinds both
   kind h e = rw (lt-ltb k 32 h) e
 
-  pub no-kind : 31 < k → Kinded false
-  unfolding isKind kinds both
-  no-kind h = rw (le-ltb k 32 h)
-
   abbrev Alone : Kind → Type 0
   Alone q = both (eqb a 0) (eqb b 0) ≡ goodKind s l i q a b
 
@@ -65,13 +61,28 @@ module _ (s : List ℕ) (l : Layout) (i k a b : ℕ) where
   pub kinded-high : 19 < k → k < 32 → Kinded (both (eqb a 0) (eqb b 0))
   kinded-high g h = kind h (high-kinds Alone alone-plain alone-pooled k g)
 
-  pub kinded-fields : k ≡ 18 → Kinded (both (pick (eqb b 0) (eqb a 0) true) (listed s l i a b))
+  kinded-fields : k ≡ 18 → Kinded (both (pick (eqb b 0) (eqb a 0) true) (listed s l i a b))
   unfolding goodKind goodPlaces firstChild childCount listed kindOf kinds
   kinded-fields e = kind (omega arith) (rw e (given-both _ _ _))
 
-  pub kinded-variants : k ≡ 19 → Kinded (both (leb 1 b) (listed s l i a b))
+  kinded-variants : k ≡ 19 → Kinded (both (leb 1 b) (listed s l i a b))
   unfolding goodKind goodPlaces firstChild childCount listed kindOf kinds
   kinded-variants e = kind (omega arith) (rw e (given-both _ _ _))
+
+  -- where there are children, the list decides; a struct alone may have none
+  pub kinded-list : 17 < k → k < 20 → 1 ≤ b → Kinded (listed s l i a b)
+  unfolding pick both
+  kinded-list g h some =
+      by-eq k 18
+      (λ e. rw (ne-eqb b 0 (λ none. omega arith)) at (kinded-fields e))
+      (λ e. rw (le-leb 1 b some) at (kinded-variants (omega arith)))
+
+  pub kinded-bare : k ≡ 18 → b ≡ 0 → Kinded (eqb a 0)
+  kinded-bare e f = no-fields s l i a b f ∙ kinded-fields e
+
+  pub no-variants : k ≡ 19 → b ≡ 0 → Kinded false
+  unfolding both
+  no-variants e f = rw (lt-leb 1 b (omega arith)) at (kinded-variants e)
 
   -- a and b are themselves the numbers of an option's, a sequence's and a map's children
   module _ (ra : a ≡ u16At s (recordOf l i + 2)) (rb : b ≡ u16At s (recordOf l i + 4)) where
@@ -84,12 +95,12 @@ module _ (s : List ℕ) (l : Layout) (i k a b : ℕ) where
         go true false = refl
         go false y = refl
 
-    pub kinded-one : 14 < k → k < 17 → Kinded (both (eqb b 0) (ltb a i))
+    kinded-one : 14 < k → k < 17 → Kinded (both (eqb b 0) (ltb a i))
     unfolding goodKind goodPlaces firstChild childCount kinds
     kinded-one g h =
         kind (omega arith) (in-kinds (λ q. both (eqb b 0) (ltb a i) ≡ goodKind s l i q a b) 15 2 refl (one & one & end) k g (omega arith))
 
-    pub kinded-map : k ≡ 17 → Kinded (both (ltb a i) (ltb b i))
+    kinded-map : k ≡ 17 → Kinded (both (ltb a i) (ltb b i))
     unfolding goodKind goodPlaces firstChild childCount below given both kindOf kinds
     kinded-map e =
         let next : recordOf l i + 4 ≡ recordOf l i + 2 + 2 = omega arith in
@@ -99,6 +110,11 @@ module _ (s : List ℕ) (l : Layout) (i k a b : ℕ) where
         go true true = refl
         go true false = refl
         go false y = refl
+
+    pub kinded-own : 14 < k → k < 18 → Kinded (pick (eqb k 17) (both (ltb a i) (ltb b i)) (both (eqb b 0) (ltb a i)))
+    unfolding pick
+    kinded-own g h =
+        by-eq k 17 (λ e. rw (eq-eqb k 17 e) (kinded-map e)) (λ e. rw (ne-eqb k 17 e) (kinded-one g (omega arith)))
 
 -- ---- the children
 

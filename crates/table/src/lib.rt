@@ -7,7 +7,7 @@ ghost use mathlib.Core.Path.{_≡_};
 ghost use mathlib.Core.Bool.{true};
 ghost use Prim.Native.Nat.{max, _+_, _*_, _^_, _<_, _≤_};
 ghost use lib.ListN.{length};
-ghost use lib.Dec.{eqb, ltb, leb};
+ghost use lib.Dec.{eqb, ltb};
 ghost use Rattle.wire.specs.Tests.{pick, both};
 ghost use Rattle.wire.specs.Walk.{following, isKnown};
 ghost use Rattle.wire.specs.Table.{u16At, u32At, first as firstForm, second as secondForm, endingAt, layoutAt, isKind, kindOf, recordOf, nodeAt, firstChild, childCount, goodKind, goodNode, checkFrom, checkAs};
@@ -46,6 +46,9 @@ impl Second {
 const RECORD: usize = 6;
 
 const LONGEST: usize = 256;
+
+// A list of fewer children is short.
+const SHORT: usize = 8;
 
 // What follows an item: the `width` numbers that stand at `from` in the table, `rounds` times over.
 pub struct Stretch {
@@ -138,11 +141,11 @@ fn good_trailer(t: Ending, mark: usize, nodes: usize, bytes: usize, end: usize) 
     if t.mark != mark {
         return false;
     }
-    if nodes < t.n {
-        return false;
-    }
     // So there is a node.
     if t.n <= t.root {
+        return false;
+    }
+    if nodes < t.n {
         return false;
     }
     if t.c % 2 != 0 {
@@ -208,6 +211,24 @@ fn all_below(table: &[u8], node: usize, from: usize, count: usize) -> bool
     wider(largest) < node
 }
 
+// The same of a short list, number by number: the compiler writes the few turns out.
+fn few_below(table: &[u8], node: usize, from: usize, count: usize) -> bool
+    requires { ⌜ from + 2 * count ≤ length (now table) ⌝ }
+    ensures { λ r. ⌜ r ≡ allBelow (now (table .entry)) node from count ⌝ }
+{
+    let mut at = from;
+    let mut left = count;
+    while 0 < left {
+        let child = u16_at(table, at);
+        if node <= child {
+            return false;
+        }
+        at = at + 2;
+        left = left - 1;
+    }
+    true
+}
+
 // A record of an option or a sequence, whose child's number is a.
 fn one_below(node: usize, a: usize, b: usize) -> bool
     ensures { λ r. ⌜ r ≡ both (eqb b 0) (ltb a node) ⌝ }
@@ -228,75 +249,91 @@ fn both_below(node: usize, a: usize, b: usize) -> bool
     false
 }
 
-// Whether b places, of which there is one, from the a-th on are in the child list, with numbers below the node.
+// The record of a kind whose children's numbers are in it.
+fn good_own(node: usize, number: usize, a: usize, b: usize) -> bool
+    ensures { λ r. ⌜ r ≡ pick (eqb number 17) (both (ltb a node) (ltb b node)) (both (eqb b 0) (ltb a node)) ⌝ }
+{
+    if number == 17 {
+        return both_below(node, a, b);
+    }
+    one_below(node, a, b)
+}
+
+// Whether b places from the a-th on are in the child list, with numbers below the node.
 fn good_list(table: &[u8], l: Layout, node: usize, a: usize, b: usize) -> bool
     requires { ⌜ Inside (now table) l ⌝ }
-    requires { ⌜ (a < 65536) × (b < 65536) × (0 < b) ⌝ }
+    requires { ⌜ (a < 65536) × (b < 65536) ⌝ }
     ensures { λ r. ⌜ r ≡ listed (now (table .entry)) l node a b ⌝ }
 {
     if l.places < a + b {
         return false;
     }
-    all_below(table, node, l.children + 2 * a, b)
-}
-
-fn good_fields(table: &[u8], l: Layout, node: usize, a: usize, b: usize) -> bool
-    requires { ⌜ Inside (now table) l ⌝ }
-    requires { ⌜ (a < 65536) × (b < 65536) ⌝ }
-    ensures { λ r. ⌜ r ≡ both (pick (eqb b 0) (eqb a 0) true) (listed (now (table .entry)) l node a b) ⌝ }
-{
-    if b == 0 {
-        return a == 0;
+    let from = l.children + 2 * a;
+    if b < SHORT {
+        return few_below(table, node, from, b);
     }
-    good_list(table, l, node, a, b)
+    all_below(table, node, from, b)
 }
 
-fn good_variants(table: &[u8], l: Layout, node: usize, a: usize, b: usize) -> bool
+// A struct's or an enum's record, of which a struct alone may have no children.
+fn good_children(table: &[u8], l: Layout, node: usize, number: usize, a: usize, b: usize) -> bool
     requires { ⌜ Inside (now table) l ⌝ }
+    requires { ⌜ (17 < number) × (number < 20) ⌝ }
     requires { ⌜ (a < 65536) × (b < 65536) ⌝ }
-    ensures { λ r. ⌜ r ≡ both (leb 1 b) (listed (now (table .entry)) l node a b) ⌝ }
+    ensures { λ r. ⌜ r ≡ both (isKind number) (goodKind (now (table .entry)) l node (kindOf number) a b) ⌝ }
 {
     if 1 <= b {
         return good_list(table, l, node, a, b);
     }
+    if number == 18 {
+        return a == 0;
+    }
     false
 }
 
-// Whether the record of a kind from 15 on is good.
-fn good_inner(table: &[u8], l: Layout, node: usize, number: u8, a: usize, b: usize) -> bool
+// The node i by its record, whose first two bytes are one number: the kind's, or no kind's where the second isn't zero.
+fn good_record(table: &[u8], l: Layout, i: usize) -> bool
     requires { ⌜ Inside (now table) l ⌝ }
-    requires { ⌜ 15 ≤ number ⌝ }
-    requires { ⌜ (a < 65536) × (b < 65536) ⌝ }
-    requires { ⌜ (a ≡ u16At (now table) (recordOf l node + 2)) × (b ≡ u16At (now table) (recordOf l node + 4)) ⌝ }
-    ensures { λ r. ⌜ r ≡ both (isKind number) (goodKind (now (table .entry)) l node (kindOf number) a b) ⌝ }
+    requires { ⌜ i < l .nodes ⌝ }
+    ensures { λ r. ⌜ r ≡ goodNode (now (table .entry)) l i (nodeAt (now (table .entry)) (recordOf l i)) ⌝ }
 {
+    let at = l.records + RECORD * i;
+    let number = u16_at(table, at);
+    let a = u16_at(table, at + 2);
+    let b = u16_at(table, at + 4);
     match number {
-        15 | 16 => one_below(node, a, b),
-        17 => both_below(node, a, b),
-        18 => good_fields(table, l, node, a, b),
-        19 => good_variants(table, l, node, a, b),
+        0..=14 => both_zero(a, b),
+        15..=17 => good_own(i, number, a, b),
+        18 | 19 => good_children(table, l, i, number, a, b),
         20..=31 => both_zero(a, b),
         _ => false,
     }
 }
 
-// The node i, whose record stands at an offset. A kind below 15 and the zero byte behind it are one number below 15, and
-// most nodes are such leaves.
+// Whether a record, at an offset, is of a kind below 15 with zeros behind. The four bytes to a's end are then one number below 15.
+fn is_leaf(table: &[u8], at: usize) -> bool
+    requires { ⌜ at + 6 ≤ length (now table) ⌝ }
+    ensures { λ r. ⌜ r ≡ both (ltb (u32At (now (table .entry)) at) 15) (eqb (u16At (now (table .entry)) (at + 4)) 0) ⌝ }
+{
+    let front = u32_at(table, at);
+    if front < 15 {
+        let b = u16_at(table, at + 4);
+        return b == 0;
+    }
+    false
+}
+
+// The node i, whose record stands at an offset. Most nodes are such leaves. For the others the offset is worked out again: of
+// bytes that are taken from one place twice the compiler makes no wider number.
 fn good_node(table: &[u8], l: Layout, i: usize, at: usize) -> bool
     requires { ⌜ Inside (now table) l ⌝ }
     requires { ⌜ (i < l .nodes) × (at ≡ recordOf l i) ⌝ }
     ensures { λ r. ⌜ r ≡ goodNode (now (table .entry)) l i (nodeAt (now (table .entry)) (recordOf l i)) ⌝ }
 {
-    let head = u16_at(table, at);
-    let a = u16_at(table, at + 2);
-    let b = u16_at(table, at + 4);
-    if head < 15 {
-        return both_zero(a, b);
+    if is_leaf(table, at) {
+        return true;
     }
-    if head < 256 {
-        return good_inner(table, l, i, head as u8, a, b);
-    }
-    false
+    good_record(table, l, i)
 }
 
 // ---- chains of children

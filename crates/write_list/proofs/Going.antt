@@ -10,7 +10,7 @@ use Rattle.wire.specs.Writing.{Left, Wrote, wrote, misfit, wroteAfter, writeNot
 use Rattle.output.proofs.Counting.{puts-none, puts-both}
 use Rattle.write_list.specs.declared.Put.{Put}
 use Rattle.write_list.specs.declared.Put.the-variants.{Done, Misfit}
-use Rattle.write_list.specs.Steps.{entries, Sure, Going, GivesBy, Gives}
+use Rattle.write_list.specs.Steps.{entries, Sure, Going, GivesBy, Gives, Keeps}
 
 -- a slice of bytes, as its room is told: the search of `omega` over a place's facts takes longer
 pub few-bytes : (n : ℕ) → n * 1 < 2 ^ 63 → n < 2 ^ 63
@@ -51,7 +51,7 @@ pub going-begin : (w : Wrote) (u : ℕ) (out : List ℕ) → u < 2 ^ 64 → Goin
 going-begin w u out h = record { bytes = []; is = sym (after-none w); puts = puts-none u out h }
 
 module _ {w rest : Wrote} {u : ℕ} {before : List ℕ} {n : ℕ} {out : List ℕ} (small : length before < 2 ^ 63) (g : Going w rest u before n out) where
-  going-on : {last : Wrote} {m : ℕ} {end : List ℕ} → Going rest last n out m end → Going w last u before m end
+  pub going-on : {last : Wrote} {m : ℕ} {end : List ℕ} → Going rest last n out m end → Going w last u before m end
   going-on {last} d =
       record { bytes = g .bytes ++ d .bytes; is = g .is ∙ ap (wroteAfter (g .bytes)) (d .is) ∙ after-after (g .bytes) (d .bytes) last; puts = puts-both small (g .puts) (d .puts) }
 
@@ -102,3 +102,11 @@ going-end {w} {ws} {u} {before} {n} {out} g e = record { holds = record { bytes 
 
 pub gives-misfit : {w : Wrote} {ws : List ℕ} {u : ℕ} {before : List ℕ} {i : ℕ} {out : List ℕ} → w ≡ misfit i → Gives w ws u before (Misfit i) out
 gives-misfit e = record { holds = e }
+
+-- ---- nothing was put
+
+pub keeps-done : {before : List ℕ} {at n : ℕ} {out : List ℕ} → Keeps before (Done at n) out
+keeps-done {before} {at} {n} = record { same = λ {i} e. let z : _≡_ {A = Put} (Done at n) (Misfit i) = e in let o : _≡_ {A = ℕ} 0 1 = cc in absurd (omega arith) }
+
+pub keeps-same : {before : List ℕ} {r : Put} → Keeps before r before
+keeps-same = record { same = λ e. refl }

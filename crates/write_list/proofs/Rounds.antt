@@ -10,6 +10,7 @@ use borrow.Author.Tests.{eq-eqb, ne-eqb}
 use Rattle.wire.specs.declared.Layout.{Layout}
 use Rattle.wire.specs.declared.Checked.the-variants.{Good}
 use Rattle.wire.specs.Shape.{struct}
+use Rattle.wire.specs.Walk.{times}
 use Rattle.wire.specs.Table.{u16At, shapeOf, check}
 use Rattle.wire.specs.Writing.{Left, Wrote, misfit, single, headBytes, writeOn, writeThen, writeEntry, writeItem, writing, write}
 use Rattle.wire.specs.Answers.{roomOf}
@@ -50,6 +51,16 @@ module _ (s : List ℕ) (l : Layout) (pool : List ℕ) (c : ℕ) (h : Bool) (fro
   round-misfit q =
       let begun : under (writing pool) h n (rowStep (writing pool) s l from n) (entries ws i) ≡ misfit i = rw q at (b .holds pool n (rowStep (writing pool) s l from n)) in
       more ∙ ap (λ w. writeOn w (roundsStep (writing pool) s l (c - 1) h from n)) begun
+
+-- one round is the row, as it stands or as a struct's fields
+module _ (s : List ℕ) (l : Layout) (pool : List ℕ) (from n : ℕ) (x : Left) where
+  pub round-one : (h : Bool) → roundsStep (writing pool) s l 1 h from n x ≡ under (writing pool) h n (rowStep (writing pool) s l from n) x
+  unfolding roundsStep times
+  round-one h = then-nothing (under (writing pool) h n (rowStep (writing pool) s l from n)) x
+
+  pub row-one : roundsStep (writing pool) s l 1 false from n x ≡ rowStep (writing pool) s l from n x
+  unfolding under
+  row-one = round-one false
 
 -- ---- a stretch that is one struct alone
 

@@ -7,9 +7,10 @@ use Prim.Native.Nat.{ℕ, _+_, _*_, _<_}
 use lib.ListN.{drop}
 use Rattle.wire.specs.declared.Layout.{Layout}
 use Rattle.wire.specs.Shape.{Kind}
-use Rattle.wire.specs.Table.{shapeOf}
+use Rattle.wire.specs.Table.{kindOf, shapeOf}
 use Rattle.wire.specs.Writing.{Left, Wrote, wrote, misfit, wroteAfter, writeNothing, writeItem, writing, write}
 use Rattle.wire.specs.Answers.{wordsPer, entriesOf, roomOf}
+use Rattle.laws.specs.KindRanges.{IsLeaf}
 use Rattle.table.specs.declared.Stretch.{Stretch}
 use Rattle.table.specs.Parts.{Falls, under, rowStep, roundsStep}
 use Rattle.output.specs.Bytes.{Puts}
@@ -47,6 +48,10 @@ GivesBy w ws u before (Misfit i) out = w ≡ misfit i
 pub record Gives (w : Wrote) (ws : List ℕ) (u : ℕ) (before : List ℕ) (r : Put) (out : List ℕ) : Type 0 where
   pub holds : GivesBy w ws u before r out
 
+-- where there is a misfit, nothing was put
+pub record Keeps (before : List ℕ) (r : Put) (out : List ℕ) : Type 0 where
+  pub same : {i : ℕ} → r ≡ Misfit i → out ≡ before
+
 -- The entry `at`, of the node i, was entered: its own bytes were put, the nodes that follow fall, and they are what is left.
 pub record Goes (w : Wrote) (s : List ℕ) (l : Layout) (pool : List ℕ) (i : ℕ) (ws : List ℕ) (at u : ℕ) (before : List ℕ) (to : Stretch) (n : ℕ) (out : List ℕ) : Type 0 where
   pub more : at < roomOf ws
@@ -73,6 +78,21 @@ pub record Leads (s : List ℕ) (l : Layout) (from n : ℕ) (ws : List ℕ) (at 
   pub falls : Falls s (r .child) (r .left) (l .nodes)
   pub going : (pool : List ℕ) → Going (rowStep (writing pool) s l from n (entries ws at)) (rowStep (writing pool) s l (r .child) (r .left) (entries ws (r .at))) 0 before (r .used) out
 
--- where none are left, the whole list was put
-pub record Whole (s : List ℕ) (l : Layout) (ws before : List ℕ) (r : Ahead) (out : List ℕ) : Type 0 where
-  pub all : r .left ≡ 0 → (pool : List ℕ) → Gives (write (shapeOf s l) pool (entries ws 0)) ws 0 before (Done (r .at) (r .used)) out
+-- the entry `at` is that of a leaf with the kind's number k, and was put; or nothing was
+pub record LeafPut (k : ℕ) (ws : List ℕ) (at : ℕ) (pool : List ℕ) (u : ℕ) (before : List ℕ) (r : Put) (out : List ℕ) : Type 0 where
+  pub leaf : IsLeaf k
+  pub more : at < roomOf ws
+  pub gives : Gives (writeLeaf (kindOf k) pool (entries ws at)) ws u before r out
+
+pub record Leaf (k : ℕ) (ws : List ℕ) (at : ℕ) (pool : List ℕ) (u : ℕ) (before : List ℕ) (r : Put) (out : List ℕ) : Type 0 where
+  pub put : {j n : ℕ} → r ≡ Done j n → LeafPut k ws at pool u before r out
+  pub kept : Keeps before r out
+
+-- of the writing w, bytes were put behind the first u, up to a row that is left, whose numbers fall
+pub record Reaches (pool s : List ℕ) (l : Layout) (w : Wrote) (ws : List ℕ) (u : ℕ) (before : List ℕ) (r : Ahead) (out : List ℕ) : Type 0 where
+  pub falls : Falls s (r .child) (r .left) (l .nodes)
+  pub going : Going w (rowStep (writing pool) s l (r .child) (r .left) (entries ws (r .at))) u before (r .used) out
+
+-- of any list the whole is left
+pub record Nothing (s : List ℕ) (l : Layout) (r : Ahead) : Type 0 where
+  pub all : (pool ws out : List ℕ) → Reaches pool s l (write (shapeOf s l) pool (entries ws 0)) ws 0 out r out

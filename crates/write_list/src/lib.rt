@@ -12,7 +12,7 @@ ghost use Rattle.wire.specs.Answers.{roomOf};
 ghost use Rattle.laws.specs.Tables.{GoodTable};
 ghost use Rattle.laws.specs.KindRanges.{IsInner, IsLeaf};
 ghost use Rattle.table.specs.Parts.{Falls, nodeStep, rowStep, roundsStep};
-ghost use Rattle.write_list.specs.Steps.{entries, writeLeaf, Sure, Gives, Enters, Begins, Leads, Whole};
+ghost use Rattle.write_list.specs.Steps.{entries, writeLeaf, Sure, Keeps, Gives, Enters, Begins, Leads, Leaf, Reaches, Nothing};
 
 // How far a list is written: the next entry and how many bytes there are now; or the entry that does not fit.
 pub enum Put {
@@ -26,8 +26,7 @@ enum Entered {
     Misfit,
 }
 
-// How far integers in front of a row were put: the next entry, how many bytes there are now, and where the numbers that are left
-// stand, and how many.
+// How far a list was put: the next entry, how many bytes there are now, and where the numbers that are left stand, and how many.
 pub struct Ahead {
     pub at: usize,
     pub used: usize,
@@ -43,7 +42,7 @@ enum Begun {
 
 // ---- an entry
 
-// A leaf's, which nothing follows.
+// A leaf's, which nothing follows. Of one that no value has nothing is put.
 fn leaf_item(
     number: u8,
     words: &[u64],
@@ -56,7 +55,7 @@ fn leaf_item(
     requires { ⌜ IsLeaf number ⌝ }
     requires { ⌜ at < roomOf (now words) ⌝ }
     requires { ⌜ Sure judged (writeLeaf (kindOf number) (now pool) (entries (now words) at)) ⌝ }
-    ensures { λ r. ⌜ Gives (writeLeaf (kindOf number) (now (pool .entry)) (entries (now (words .entry)) at)) (now (words .entry)) used (now (out .entry)) r (now (out .exit)) ⌝ }
+    ensures { λ r. ⌜ Gives (writeLeaf (kindOf number) (now (pool .entry)) (entries (now (words .entry)) at)) (now (words .entry)) used (now (out .entry)) r (now (out .exit)) × Keeps (now (out .entry)) r (now (out .exit)) ⌝ }
 {
     let first = entry::first(words, at);
     let second = entry::second(words, at);
@@ -132,6 +131,7 @@ fn begin(headed: bool, words: &[u64], at: usize) -> Begun
 
 // ---- the cycle: an item, one with children, the rounds of the stretch that follows it, one round
 
+// An item. An integer that has its places, as most have, is put here without a call.
 fn put_item(
     table: &[u8],
     l: Layout,
@@ -148,10 +148,20 @@ fn put_item(
     requires { ⌜ Sure judged (nodeStep (writing (now pool)) (now table) l node (entries (now words) at)) ⌝ }
     ensures { λ r. ⌜ Gives (nodeStep (writing (now (pool .entry))) (now (table .entry)) l node (entries (now (words .entry)) at)) (now (words .entry)) used (now (out .entry)) r (now (out .exit)) ⌝ }
 {
+    let number = table::kind_at(table, l, node);
+    let room = output::places(out.len(), used, varint::U64::MOST);
+    if write_item::is_ready(number, words, at, room) {
+        let first = entry::first(words, at);
+        let more = write_item::put_ready(number, first, out, used);
+        let next = at + 1;
+        return Put::Done {
+            at: next,
+            used: more,
+        };
+    }
     if entry::room(words.len()) <= at {
         return Put::Misfit { at };
     }
-    let number = table::kind_at(table, l, node);
     if table::is_inner(number) {
         let got = inner_item(table, l, node, number, words, at, pool, out, used, judged);
         // Made anew, so that a leaf's answer does not go through memory with this one.
@@ -319,41 +329,55 @@ fn put_stretch(
     Put::Done { at: i, used: n }
 }
 
-// ---- the whole list
+// ---- a list from where it was put on
 
-// The whole list, from the root, whose number stands in the trailer.
-pub fn put_list(
+// The row that is left of a list, behind what was put.
+pub fn put_rest(
     table: &[u8],
     l: Layout,
+    ahead: Ahead,
     words: &[u64],
     pool: &[u8],
     out: &mut [u8],
     judged: bool,
 ) -> Put
-    requires { ⌜ checkOf (now table) ≡ Good l ⌝ }
-    requires { ⌜ Sure judged (writeShape (shapeOf (now table) l) (now pool) (entries (now words) 0)) ⌝ }
-    ensures { λ r. ⌜ Gives (writeShape (shapeOf (now (table .entry)) l) (now (pool .entry)) (entries (now (words .entry)) 0)) (now (words .entry)) 0 (now (out .entry)) r (now (out .exit)) ⌝ }
+    requires { ⌜ GoodTable (now table) l ⌝ }
+    requires { ⌜ Falls (now table) (ahead .child) (ahead .left) (l .nodes) ⌝ }
+    requires { ⌜ Sure judged (rowStep (writing (now pool)) (now table) l (ahead .child) (ahead .left) (entries (now words) (ahead .at))) ⌝ }
+    ensures { λ r. ⌜ Gives (rowStep (writing (now (pool .entry))) (now (table .entry)) l (ahead .child) (ahead .left) (entries (now (words .entry)) (ahead .at))) (now (words .entry)) (ahead .used) (now (out .entry)) r (now (out .exit)) ⌝ }
 {
-    let from = table::root_at(table);
-    let way = table::flat(table, l, l.nodes, from, 1);
     put_rounds(
         table,
         l,
         l.nodes,
         1,
-        way.headed,
-        way.from,
-        way.width,
+        false,
+        ahead.child,
+        ahead.left,
         words,
-        0,
+        ahead.at,
         pool,
         out,
-        0,
+        ahead.used,
         judged,
     )
 }
 
-// ---- integers in front, which need no cycle
+// Nothing of a list is put: what is left is the root, whose number stands in the trailer.
+pub fn put_nothing(table: &[u8], l: Layout) -> Ahead
+    requires { ⌜ checkOf (now table) ≡ Good l ⌝ }
+    ensures { λ r. ⌜ Nothing (now (table .entry)) l r ⌝ }
+{
+    let from = table::root_at(table);
+    Ahead {
+        at: 0,
+        used: 0,
+        child: from,
+        left: 1,
+    }
+}
+
+// ---- leaves in front, which need no cycle
 
 // The integers in front of a row, up to an entry that no value has or one that might not have its places.
 fn put_ints(
@@ -399,21 +423,80 @@ fn put_ints(
     }
 }
 
-// The integers in front of the whole list. None are left if it has nothing else.
-pub fn put_front(table: &[u8], l: Layout, words: &[u64], out: &mut [u8]) -> Ahead
+// The entry of a kind's number, where it is a leaf's.
+fn put_leaf(number: u8, words: &[u64], at: usize, pool: &[u8], out: &mut [u8], used: usize) -> Put
+    requires { ⌜ number < 32 ⌝ }
+    ensures { λ r. ⌜ Leaf number (now (words .entry)) at (now (pool .entry)) used (now (out .entry)) r (now (out .exit)) ⌝ }
+{
+    if entry::room(words.len()) <= at {
+        return Put::Misfit { at };
+    }
+    if table::is_inner(number) {
+        return Put::Misfit { at };
+    }
+    leaf_item(number, words, at, pool, out, used, false)
+}
+
+// The leaves behind what was put of a row, up to another item or an entry that no value has.
+fn put_leaves(
+    table: &[u8],
+    l: Layout,
+    ahead: Ahead,
+    words: &[u64],
+    pool: &[u8],
+    out: &mut [u8],
+) -> Ahead
+    requires { ⌜ GoodTable (now table) l ⌝ }
+    requires { ⌜ Falls (now table) (ahead .child) (ahead .left) (l .nodes) ⌝ }
+    ensures { λ r. ⌜ Reaches (now (pool .entry)) (now (table .entry)) l (rowStep (writing (now (pool .entry))) (now (table .entry)) l (ahead .child) (ahead .left) (entries (now (words .entry)) (ahead .at))) (now (words .entry)) (ahead .used) (now (out .entry)) r (now (out .exit)) ⌝ }
+{
+    let mut i = ahead.at;
+    let mut n = ahead.used;
+    let mut field = ahead.child;
+    let mut left = ahead.left;
+    while 0 < left {
+        let c = table::u16_at(table, field);
+        let number = table::kind_at(table, l, c);
+        let got = put_leaf(number, words, i, pool, out, n);
+        let Put::Done {
+            at: next,
+            used: more,
+        } = got
+        else {
+            return Ahead {
+                at: i,
+                used: n,
+                child: field,
+                left,
+            };
+        };
+        i = next;
+        n = more;
+        field = field + 2;
+        left = left - 1;
+    }
+    Ahead {
+        at: i,
+        used: n,
+        child: field,
+        left,
+    }
+}
+
+// The leaves in front of the whole list. None are left if it has nothing else.
+pub fn put_front(table: &[u8], l: Layout, words: &[u64], pool: &[u8], out: &mut [u8]) -> Ahead
     requires { ⌜ checkOf (now table) ≡ Good l ⌝ }
-    ensures { λ r. ⌜ Whole (now (table .entry)) l (now (words .entry)) (now (out .entry)) r (now (out .exit)) ⌝ }
+    ensures { λ r. ⌜ Reaches (now (pool .entry)) (now (table .entry)) l (writeShape (shapeOf (now (table .entry)) l) (now (pool .entry)) (entries (now (words .entry)) 0)) (now (words .entry)) 0 (now (out .entry)) r (now (out .exit)) ⌝ }
 {
     let from = table::root_at(table);
     let way = table::flat(table, l, l.nodes, from, 1);
     let begun = begin(way.headed, words, 0);
     let Begun::At { at: start } = begun else {
-        return Ahead {
-            at: 0,
-            used: 0,
-            child: from,
-            left: 1,
-        };
+        return put_nothing(table, l);
     };
-    put_ints(table, l, way.from, way.width, words, start, out)
+    let ints = put_ints(table, l, way.from, way.width, words, start, out);
+    if ints.left == 0 {
+        return ints;
+    }
+    put_leaves(table, l, ints, words, pool, out)
 }

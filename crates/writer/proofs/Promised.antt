@@ -18,21 +18,20 @@ use Rattle.wire.specs.declared.Checked.the-variants.{Good, Bad}
 use Rattle.wire.specs.declared.WriteAnswer.{WriteAnswer}
 use Rattle.wire.specs.declared.WriteAnswer.the-variants.{Done, Refused}
 use Rattle.wire.specs.Tests.{pick, given}
-use Rattle.wire.specs.Shape.{Shape}
 use Rattle.wire.specs.Table.{check, shapeOf}
-use Rattle.wire.specs.Writing.{Wrote, wrote, misfit, wroteAfter, write}
+use Rattle.wire.specs.Writing.{Wrote, wrote, misfit, wroteAfter, writing, write}
 use Rattle.wire.specs.Answers.{wordsPer, roomOf, Form, form, noForm, formOf, formed, writeBy, writes, writeAnswer, outWith}
 use Rattle.laws.specs.Answered.{Writes}
+use Rattle.table.specs.Parts.{rowStep}
 use Rattle.output.specs.Bytes.{cap, Puts}
 use Rattle.output.proofs.Counting.{cap-above, cap-within}
 use Rattle.write_list.specs.declared.Put.{Put}
 use Rattle.write_list.specs.declared.Put.the-variants as put
-use Rattle.write_list.specs.Steps.{entries, Sure, Going, GivesBy, Gives}
-use Rattle.writer.specs.declared.Few.{Few}
-use Rattle.writer.specs.declared.Few.the-variants as few
-use Rattle.writer.specs.Promise.{Tried, OneWriting}
-use Rattle.writer.specs.Promise as promise
+use Rattle.write_list.specs.declared.Ahead.{Ahead}
+use Rattle.write_list.specs.Steps.{entries, Sure, Going, GivesBy, Gives, Reaches}
+use Rattle.writer.specs.Promise.{Kept, OneWriting}
 use Rattle.write_list.proofs.Entries.{entries-none, entries-more}
+use Rattle.write_list.proofs.Going.{gives-whole}
 
 writes-no : {f : Form} {e : Refusal} {p : ℕ} (out : List ℕ) → f ≡ noForm e p → Writes f out (Refused e p) out
 unfolding writeAnswer outWith
@@ -55,6 +54,15 @@ module _ {w : Wrote} {ws : List ℕ} {u : ℕ} {before : List ℕ} {r : Put} {ou
 
   not-put : {i : ℕ} → r ≡ put.Misfit i → w ≡ misfit i
   not-put q = rw q at (g .holds)
+
+pub is-kept : {s : List ℕ} {l : Layout} {ws pool : List ℕ} {a : Ahead} {before room : List ℕ} → Reaches pool s l (write (shapeOf s l) pool (entries ws 0)) ws 0 before a room → length before ≡ length room
+    → Kept s l ws pool a room
+is-kept {before = before} f e = record { before = before; same = e; reached = f }
+
+-- what is kept in a room, and the row that is left behind it, are the whole
+pub kept-gives : {s : List ℕ} {l : Layout} {ws pool : List ℕ} {a : Ahead} {room : List ℕ} {r : Put} {out : List ℕ} → length room < 2 ^ 63 → (k : Kept s l ws pool a room)
+    → Gives (rowStep (writing pool) s l (a .child) (a .left) (entries ws (a .at))) ws (a .used) room r out → Gives (write (shapeOf s l) pool (entries ws 0)) ws 0 (k .before) r out
+kept-gives small k g = gives-whole (omega (arith, k .same)) (k .reached .going) g
 
 -- it was judged by putting it in front of some bytes
 module _ {w : Wrote} {ws before : List ℕ} {r : Put} {kept : List ℕ} (out : List ℕ) (j : Gives w ws 0 before r kept) where
@@ -119,21 +127,6 @@ module _ {w : Wrote} {ws before : List ℕ} {r : Put} {kept : List ℕ} (out : L
 
         pub judged-done : {p : Put} {left : List ℕ} → Gives w ws 0 out p left → Writes (formed (length out) w) out (Done n) left
         judged-done {p} {left} g = stored (put-whole p left (g .holds))
-
--- ---- a list that was tried as a few integers
-
-module _ {t : Shape} {ws out : List ℕ} {r : Few} {left : List ℕ} (tried : Tried t ws out r left) where
-  pub tried-put : {used : ℕ} → r ≡ few.Put used → (pool : List ℕ) → Writes (formed (length out) (write t pool (entries ws 0))) out (Done used) left
-  tried-put {used} e = go (rw e at tried)
-    where
-      go : Tried t ws out (few.Put used) left → (pool : List ℕ) → Writes (formed (length out) (write t pool (entries ws 0))) out (Done used) left
-      go (promise.put h) = h
-
-  pub tried-other : r ≡ few.Other → left ≡ out
-  tried-other e = go left (rw e at tried)
-    where
-      go : (now : List ℕ) → Tried t ws out few.Other now → now ≡ out
-      go now promise.other = refl
 
 -- ---- with the table's check
 

@@ -1,23 +1,24 @@
--- What becomes of a list that is tried as a few integers, and that the contract of the public call leaves no choice.
+-- How far a list's form is kept in a room, and that the contract of the public call leaves no choice.
 -- Assumes nothing.
+use mathlib.Core.Path.{_≡_}
 use mathlib.Core.List.{List}
 use Prim.Native.Nat.{ℕ}
 use lib.ListN.{length}
 use Rattle.wire.specs.declared.WriteAnswer.{WriteAnswer}
-use Rattle.wire.specs.declared.WriteAnswer.the-variants.{Done}
-use Rattle.wire.specs.Shape.{Shape}
+use Rattle.wire.specs.declared.Layout.{Layout}
+use Rattle.wire.specs.Table.{shapeOf}
 use Rattle.wire.specs.Writing.{write}
-use Rattle.wire.specs.Answers.{formed, writes}
+use Rattle.wire.specs.Answers.{writes}
 use Rattle.laws.specs.Answered.{Writes}
 use Rattle.laws.specs.Unique.{Unique}
-use Rattle.writer.specs.declared.Few.{Few}
-use Rattle.writer.specs.declared.Few.the-variants.{Put, Other}
-use Rattle.write_list.specs.Steps.{entries}
+use Rattle.write_list.specs.declared.Ahead.{Ahead}
+use Rattle.write_list.specs.Steps.{entries, Reaches}
 
--- a list was tried as a few integers: with any pool it is written so; or nothing was put
-pub data Tried (t : Shape) (ws out : List ℕ) : Few → List ℕ → Type 0 where
-  put : {used : ℕ} {left : List ℕ} → ((pool : List ℕ) → Writes (formed (length out) (write t pool (entries ws 0))) out (Done used) left) → Tried t ws out (Put used) left
-  other : Tried t ws out Other out
+-- the form of a list stands in a room, as far as the list was put
+pub record Kept (s : List ℕ) (l : Layout) (ws pool : List ℕ) (a : Ahead) (room : List ℕ) : Type 0 where
+  pub before : List ℕ
+  pub same : length before ≡ length room
+  pub reached : Reaches pool s l (write (shapeOf s l) pool (entries ws 0)) ws 0 before a room
 
 -- One answer, and one output, meet the contract of `write`.
 abbrev pub OneWriting : Type 0

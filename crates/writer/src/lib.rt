@@ -1,8 +1,10 @@
-// Writing a value list by a table: one pass judges the list and measures its form, and a second one writes what was judged, but for a short form, which the first kept.
+// Writing a value list by a table: one pass judges the list, measures its form and keeps it in a room, from which it is copied; a second one writes a
+// form that is longer than its room.
 use wire::Checked;
 use wire::Layout;
 use wire::Refusal;
 use wire::WriteAnswer;
+use write_list::Ahead;
 use write_list::Put;
 ghost use mathlib.Core.Path.{_≡_};
 ghost use lib.ListN.{length};
@@ -13,29 +15,37 @@ ghost use Rattle.wire.specs.Writing.{write as writeShape};
 ghost use Rattle.wire.specs.Answers.{formed, writes};
 ghost use Rattle.laws.specs.Answered.{Writes};
 ghost use Rattle.write_list.specs.Steps.{entries};
-ghost use Rattle.writer.specs.Promise.{Tried};
+ghost use Rattle.writer.specs.Promise.{Kept};
 
-// So long is a form that the first pass keeps.
+// The rooms in which the first pass keeps a form.
 const SHORT: usize = 64;
 
-// So many words at most has a list that is tried as a few integers.
+const MIDDLE: usize = 2048;
+
+const LONG: usize = 16384;
+
+// So many words at most has a list for the shortest room, and one for the middle room. A larger room takes longer to clear.
 const FEW: usize = 16 * entry::WORDS;
 
-// What became of a list that was tried as a few integers: so many bytes are put; or it is another list, and nothing is.
-enum Few {
-    Put { used: usize },
-    Other,
-}
+const MANY: usize = 256 * entry::WORDS;
 
 // ---- the two passes
 
-// A list of whole entries. The first pass keeps the form where it is short; a longer one is written by a second pass.
-fn write_entries(table: &[u8], l: Layout, words: &[u64], pool: &[u8], out: &mut [u8]) -> WriteAnswer
+// A list of whole entries, of which so much is kept in a room. The first pass goes on from there.
+fn write_kept(
+    table: &[u8],
+    l: Layout,
+    ahead: Ahead,
+    words: &[u64],
+    pool: &[u8],
+    kept: &mut [u8],
+    out: &mut [u8],
+) -> WriteAnswer
     requires { ⌜ checkOf (now table) ≡ Good l ⌝ }
+    requires { ⌜ Kept (now table) l (now words) (now pool) ahead (now kept) ⌝ }
     ensures { λ r. ⌜ Writes (formed (length (now (out .entry))) (writeShape (shapeOf (now (table .entry)) l) (now (pool .entry)) (entries (now (words .entry)) 0))) (now (out .entry)) r (now (out .exit)) ⌝ }
 {
-    let mut small: [u8; SHORT] = [0; SHORT];
-    let got = write_list::put_list(table, l, words, pool, &mut small, false);
+    let got = write_list::put_rest(table, l, ahead, words, pool, kept, false);
     match got {
         Put::Misfit { at } => WriteAnswer::Refused {
             why: Refusal::Values,
@@ -54,52 +64,71 @@ fn write_entries(table: &[u8], l: Layout, words: &[u64], pool: &[u8], out: &mut 
                     place: 0,
                 };
             }
-            if used <= SHORT {
-                output::put_bytes(&small[..used], out, 0);
+            if used <= kept.len() {
+                output::put_bytes(&kept[..used], out, 0);
                 return WriteAnswer::Done { place: used };
             }
-            write_list::put_list(table, l, words, pool, out, true);
+            let nothing = write_list::put_nothing(table, l);
+            write_list::put_rest(table, l, nothing, words, pool, out, true);
             WriteAnswer::Done { place: used }
         }
     }
 }
 
-// ---- a short list of integers, which needs neither the cycle nor a second pass
+// ---- the rooms
 
-// A list that is tried as a few integers: how many bytes now stand in front in the output, if it is one and they have room there.
-fn put_few(table: &[u8], l: Layout, words: &[u64], out: &mut [u8]) -> Few
+// A short list. Where it is leaves only, as most are, it needs neither the cycle nor a second pass.
+fn write_few(table: &[u8], l: Layout, words: &[u64], pool: &[u8], out: &mut [u8]) -> WriteAnswer
     requires { ⌜ checkOf (now table) ≡ Good l ⌝ }
-    ensures { λ r. ⌜ Tried (shapeOf (now (table .entry)) l) (now (words .entry)) (now (out .entry)) r (now (out .exit)) ⌝ }
+    ensures { λ r. ⌜ Writes (formed (length (now (out .entry))) (writeShape (shapeOf (now (table .entry)) l) (now (pool .entry)) (entries (now (words .entry)) 0))) (now (out .entry)) r (now (out .exit)) ⌝ }
 {
-    if FEW < words.len() {
-        return Few::Other;
-    }
     let mut small: [u8; SHORT] = [0; SHORT];
-    let front = write_list::put_front(table, l, words, &mut small);
+    let front = write_list::put_front(table, l, words, pool, &mut small);
     if front.left == 0 {
         if entry::room(words.len()) <= front.at {
             let n = front.used;
             if n <= SHORT {
                 if n <= out.len() {
                     output::put_bytes(&small[..n], out, 0);
-                    return Few::Put { used: n };
+                    return WriteAnswer::Done { place: n };
                 }
             }
         }
     }
-    Few::Other
+    write_kept(table, l, front, words, pool, &mut small, out)
 }
 
-// A list of whole entries.
+fn write_many(table: &[u8], l: Layout, words: &[u64], pool: &[u8], out: &mut [u8]) -> WriteAnswer
+    requires { ⌜ checkOf (now table) ≡ Good l ⌝ }
+    ensures { λ r. ⌜ Writes (formed (length (now (out .entry))) (writeShape (shapeOf (now (table .entry)) l) (now (pool .entry)) (entries (now (words .entry)) 0))) (now (out .entry)) r (now (out .exit)) ⌝ }
+{
+    let mut middle: [u8; MIDDLE] = [0; MIDDLE];
+    let nothing = write_list::put_nothing(table, l);
+    write_kept(table, l, nothing, words, pool, &mut middle, out)
+}
+
+fn write_long(table: &[u8], l: Layout, words: &[u64], pool: &[u8], out: &mut [u8]) -> WriteAnswer
+    requires { ⌜ checkOf (now table) ≡ Good l ⌝ }
+    ensures { λ r. ⌜ Writes (formed (length (now (out .entry))) (writeShape (shapeOf (now (table .entry)) l) (now (pool .entry)) (entries (now (words .entry)) 0))) (now (out .entry)) r (now (out .exit)) ⌝ }
+{
+    let mut long: [u8; LONG] = [0; LONG];
+    let nothing = write_list::put_nothing(table, l);
+    write_kept(table, l, nothing, words, pool, &mut long, out)
+}
+
+// A list of whole entries, with the room that its form mostly fits.
 fn write_list(table: &[u8], l: Layout, words: &[u64], pool: &[u8], out: &mut [u8]) -> WriteAnswer
     requires { ⌜ checkOf (now table) ≡ Good l ⌝ }
     ensures { λ r. ⌜ Writes (formed (length (now (out .entry))) (writeShape (shapeOf (now (table .entry)) l) (now (pool .entry)) (entries (now (words .entry)) 0))) (now (out .entry)) r (now (out .exit)) ⌝ }
 {
-    let few = put_few(table, l, words, out);
-    match few {
-        Few::Put { used } => WriteAnswer::Done { place: used },
-        Few::Other => write_entries(table, l, words, pool, out),
+    let len = words.len();
+    if len <= FEW {
+        return write_few(table, l, words, pool, out);
     }
+    if len <= MANY {
+        return write_many(table, l, words, pool, out);
+    }
+    write_long(table, l, words, pool, out)
 }
 
 // Writes a value list by a table: how many bytes, which stand in front in the output, or why not.

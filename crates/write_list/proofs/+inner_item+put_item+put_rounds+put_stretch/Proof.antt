@@ -13,6 +13,10 @@ use Rattle.wire.specs.Answers.{roomOf}
 use Rattle.table.specs.Parts.{Falls, rowStep, roundsStep}
 use Rattle.table.proofs.Stretches.{falls-first, falls-next, row-end, rounds-end}
 use Rattle.entry.proofs.room.Reads as room-reads
+use Rattle.entry.proofs.first.Reads as first-reads
+use Rattle.output.proofs.places.Reads as places-reads
+use Rattle.write_item.proofs.is_ready.Reads as is-ready-reads
+use Rattle.write_item.proofs.put_ready.Reads as put-ready-reads
 use Rattle.table.proofs.is_inner.Reads as is-inner-reads
 use Rattle.table.proofs.kind_at.Reads as kind-at-reads
 use Rattle.table.proofs.u16_at.Reads as u16-at-reads
@@ -22,6 +26,7 @@ use Rattle.write_list.specs.Steps.{entries, Going}
 use Rattle.write_list.proofs.Going.{few-bytes, going-begin, no-going-on, gives-whole, sure-rest, sure-first, first-misfit, first-done, going-end, gives-misfit}
 use Rattle.write_list.proofs.Nodes.{node-end, node-number, node-leaf, entered-on, entered-misfit}
 use Rattle.write_list.proofs.Rounds.{flattens, flattened-falls, stretch-first, round-first, round-misfit, flat-sure, flat-gives}
+use Rattle.write_list.proofs.Fronts.{ready-gives}
 use Rattle.write_list.proofs.begin.Reads as begin-reads
 use Rattle.write_list.proofs.enter.Reads as enter-reads
 use Rattle.table.proofs.flat.Reads as flat-reads
@@ -74,39 +79,55 @@ module _ (t : ℕ) where
   item-at = and 4 put-item-kinds.ps (is 4 put-item-kinds.ps μ-item t) put-item.Pre
 
   abbrev item-calls : put-item-lts.Claims
-  item-calls = (room-reads.Asked, room-reads.Learnt, kind-at-reads.Asked, kind-at-reads.Learnt, is-inner-reads.Asked, is-inner-reads.Learnt, and 4 inner-item-kinds.ps (falls 4 inner-item-kinds.ps _<_ μ-inner t) inner-item.Pre, inner-item.Post, leaf-item-reads.Asked, leaf-item-reads.Learnt)
+  item-calls = (kind-at-reads.Asked, kind-at-reads.Learnt, places-reads.Asked, places-reads.Learnt, is-ready-reads.Asked, is-ready-reads.Learnt, first-reads.Asked, first-reads.Learnt, put-ready-reads.Asked, put-ready-reads.Learnt, room-reads.Asked, room-reads.Learnt, is-inner-reads.Asked, is-inner-reads.Learnt, and 4 inner-item-kinds.ps (falls 4 inner-item-kinds.ps _<_ μ-inner t) inner-item.Pre, inner-item.Post, leaf-item-reads.Asked, leaf-item-reads.Learnt)
+
+  item-first-requires : put-item-lts.Need-first-requires item-calls item-at put-item.Post
+  item-first-requires c κs = (c .before .is-ready .ensures .is (c .if1 .taken)) .more
+
+  item-put-ready-requires : put-item-lts.Need-put-ready-requires item-calls item-at put-item.Post
+  item-put-ready-requires c κs = let f = c .before .before .before .is-ready .ensures .is (c .before .before .if1 .taken) in (f .low, omega (arith, f .wide, c .before .before .before .before .places .ensures .inside))
+
+  item-add-next : put-item-lts.Need-add-next item-calls item-at put-item.Post
+  unfolding roomOf
+  item-add-next c = omega (arith, (c .before .before .before .before .before .before .is-ready .ensures .is (c .before .before .before .before .before .if1 .taken)) .more)
 
   item-returns : put-item-lts.Need-returns item-calls item-at put-item.Post
+  item-returns c = ready-gives (c .before .before .before .before .before .before .before .before .before .before .before .before .before .pre .1 .0) (c .before .before .before .before .before .before .before .before .before .before .before .before .before .pre .1 .1 .0) (c .before .before .before .before .before .before .before .before .kind-at .ensures) (c .before .before .before .before .before .before .is-ready .ensures .is (c .before .before .before .before .before .if1 .taken)) (c .before .before .before .before .first .ensures) (c .before .before .put-ready .ensures) _
+
+  item-returns-2 : put-item-lts.Need-returns-2 item-calls item-at put-item.Post
   unfolding roomOf
-  item-returns c = gives-misfit (node-end (c .before .before .before .before .before .before .pre .1 .0) (c .before .before .before .before .before .before .pre .1 .1 .0) _ _ _ (omega arith))
+  item-returns-2 c = gives-misfit (node-end (c .before .before .before .before .before .before .before .before .before .before .pre .1 .0) (c .before .before .before .before .before .before .before .before .before .before .pre .1 .1 .0) _ _ _ (omega arith))
 
   item-inner-requires : put-item-lts.Need-inner-item-requires item-calls item-at put-item.Post
   unfolding roomOf
   item-inner-requires c κs =
-      (item-inner _ (c .before .before .before .before .before .before .before .before .before .before .pre .0), (c .before .before .before .before .before .before .before .before .before .before .pre .1 .0, (c .before .before .before .before .before .before .before .before .before .before .pre .1 .1 .0, (c .before .before .before .kind-at .ensures, (is-inner _ (sym (c .before .before .is-inner .ensures) ∙ c .before .if2 .taken), (omega arith, c .before .before .before .before .before .before .before .before .before .before .pre .1 .1 .1))))))
-
-  item-returns-2 : put-item-lts.Need-returns-2 item-calls item-at put-item.Post
-  item-returns-2 c = c .before .before .before .before .inner-item .ensures
+      let s = c .before .before .before .before .before .before .before .before .before .before .before .before .before in
+      (item-inner _ (s .pre .0), (s .pre .1 .0, (s .pre .1 .1 .0, (c .before .before .before .before .before .before .before .before .kind-at .ensures, (is-inner _ (sym (c .before .before .is-inner .ensures) ∙ c .before .if3 .taken), (omega arith, s .pre .1 .1 .1))))))
 
   item-returns-3 : put-item-lts.Need-returns-3 item-calls item-at put-item.Post
-  item-returns-3 c = rw (c .before .got .given .1) at (c .before .before .before .before .before .inner-item .ensures)
+  item-returns-3 c = c .before .before .before .before .inner-item .ensures
+
+  item-returns-4 : put-item-lts.Need-returns-4 item-calls item-at put-item.Post
+  item-returns-4 c = rw (c .before .got .given .1) at (c .before .before .before .before .before .inner-item .ensures)
 
   item-leaf-requires : put-item-lts.Need-leaf-item-requires item-calls item-at put-item.Post
   unfolding roomOf
   item-leaf-requires c κs =
+      let s = c .before .before .before .before .before .before .before .before .before .before .before .before .before in
       let leaf : IsLeaf _ = record {
-        small = node-number (c .before .before .before .before .before .before .before .before .before .before .pre .1 .0) (c .before .before .before .before .before .before .before .before .before .before .pre .1 .1 .0) (c .before .before .before .before .before .before .before .before .before .before .args .pool .now) (c .before .before .before .before .before .before .before .before .before .before .args .words .now) (c .before .before .before .before .before .before .before .before .before .before .args .at) (c .before .before .before .kind-at .ensures);
-        outer = not-inner _ (sym (c .before .before .is-inner .ensures) ∙ c .before .if2 .left);
+        small = node-number (s .pre .1 .0) (s .pre .1 .1 .0) (s .args .pool .now) (s .args .words .now) (s .args .at) (c .before .before .before .before .before .before .before .before .kind-at .ensures);
+        outer = not-inner _ (sym (c .before .before .is-inner .ensures) ∙ c .before .if3 .left);
       } in
-      (leaf, (omega arith, rw (← (node-leaf (c .before .before .before .before .before .before .before .before .before .before .pre .1 .0) (c .before .before .before .before .before .before .before .before .before .before .pre .1 .1 .0) _ _ _ (c .before .before .before .kind-at .ensures) leaf)) (c .before .before .before .before .before .before .before .before .before .before .pre .1 .1 .1)))
+      (leaf, (omega arith, rw (← (node-leaf (s .pre .1 .0) (s .pre .1 .1 .0) _ _ _ (c .before .before .before .before .before .before .before .before .kind-at .ensures) leaf)) (s .pre .1 .1 .1)))
 
-  item-returns-4 : put-item-lts.Need-returns-4 item-calls item-at put-item.Post
-  item-returns-4 c =
+  item-returns-5 : put-item-lts.Need-returns-5 item-calls item-at put-item.Post
+  item-returns-5 c =
+      let s = c .before .before .before .before .before .before .before .before .before .before .before .before .before .before .before .before in
       let leaf : IsLeaf _ = record {
-        small = node-number (c .before .before .before .before .before .before .before .before .before .before .before .before .before .pre .1 .0) (c .before .before .before .before .before .before .before .before .before .before .before .before .before .pre .1 .1 .0) (c .before .before .before .before .before .before .before .before .before .before .before .before .before .args .pool .now) (c .before .before .before .before .before .before .before .before .before .before .before .before .before .args .words .now) (c .before .before .before .before .before .before .before .before .before .before .before .before .before .args .at) (c .before .before .before .before .before .before .kind-at .ensures);
-        outer = not-inner _ (sym (c .before .before .before .before .before .is-inner .ensures) ∙ c .before .before .before .before .if2 .left);
+        small = node-number (s .pre .1 .0) (s .pre .1 .1 .0) (s .args .pool .now) (s .args .words .now) (s .args .at) (c .before .before .before .before .before .before .before .before .before .before .before .kind-at .ensures);
+        outer = not-inner _ (sym (c .before .before .before .before .before .is-inner .ensures) ∙ c .before .before .before .before .if3 .left);
       } in
-      rw (node-leaf (c .before .before .before .before .before .before .before .before .before .before .before .before .before .pre .1 .0) (c .before .before .before .before .before .before .before .before .before .before .before .before .before .pre .1 .1 .0) _ _ _ (c .before .before .before .before .before .before .kind-at .ensures) leaf) (c .before .before .leaf-item .ensures)
+      rw (node-leaf (s .pre .1 .0) (s .pre .1 .1 .0) _ _ _ (c .before .before .before .before .before .before .before .before .before .before .before .kind-at .ensures) leaf) (c .before .before .leaf-item .ensures .0)
 
 -- ---- one with children
 
@@ -227,8 +248,9 @@ pub +inner-item+put-item+put-rounds+put-stretch-spec : {M : Type 1} → statemen
     (inner-flat-requires t) (inner-put-rounds-requires t) (λ c. search needs) (inner-returns-2 t) (λ c. search needs) (inner-returns-3 t))
     (λ t.
     put-item-lts.spec (item-calls t) (item-at t) put-item.Post
-    (λ c κs. search needs) (item-returns t) (λ c κs. search needs) (λ c κs. search needs) (item-inner-requires t) (λ c. search needs) (λ c. search needs) (λ c. search needs) (item-returns-2 t)
-    (λ c. search needs) (item-returns-3 t) (item-leaf-requires t) (λ c. search needs) (item-returns-4 t))
+    (λ c κs. search needs) (λ c κs. search needs) (λ c κs. search needs) (item-first-requires t) (item-put-ready-requires t) (item-add-next t) (λ c. search needs) (item-returns t)
+    (λ c κs. search needs) (item-returns-2 t) (λ c κs. search needs) (item-inner-requires t) (λ c. search needs) (λ c. search needs) (λ c. search needs) (item-returns-3 t)
+    (λ c. search needs) (item-returns-4 t) (item-leaf-requires t) (λ c. search needs) (item-returns-5 t))
     (λ t.
     put-rounds-lts.spec (rounds-calls t) (rounds-at t) put-rounds.Post rounds-Inv rounds-μ
     (λ c. (going-begin _ _ _ (omega arith), refl)) (λ c κs. search needs) (λ c. search needs) (λ c. search needs) (λ c. search needs) (rounds-returns t)

@@ -1,10 +1,10 @@
--- `write_list::leaf_item` meets its contract: a misfit, or the entry's own bytes, which nothing follows.
+-- `write_list::leaf_item` meets its contract: a misfit, of which nothing is put, or the entry's own bytes, which nothing follows.
 -- Assumes nothing.
 use mathlib.Core.Path.{refl, sym, _∙_}
 use native.Mathlib.Omega.{arith}
 use borrow.Author.Needs.{needs}
 use Rattle.wire.specs.Answers.{roomOf}
-use Rattle.write_list.proofs.Going.{going-end, gives-misfit}
+use Rattle.write_list.proofs.Going.{going-end, gives-misfit, keeps-done, keeps-same}
 use Rattle.write_list.proofs.Nodes.{some-fits, start-lacks, start-known, start-going, leaf-starts}
 use Rattle.write_list.proofs.leaf_item.Statement.{statement}
 use Rattle.write_list.proofs.leaf_item.Tie as tie
@@ -29,14 +29,16 @@ same-length : tie.Need-same-length
 same-length c = search needs
 
 returns : tie.Need-returns
-returns c =
-    going-end
-    (start-going (leaf-starts _ _ _ _ (c .before .before .before .before .before .before .before .before .before .before .before .pre .1 .0) (c .before .before .before .before .before .before .before .first .ensures) (c .before .before .before .before .before .before .second .ensures)) (sym (c .before .before .before .before .before .fits-leaf .ensures) ∙ c .before .before .before .before .if1 .taken)
-    (λ bs q. c .before .before .put-leaf .ensures .puts 0 q))
-    refl
+returns c = (
+  going-end
+      (start-going (leaf-starts _ _ _ _ (c .before .before .before .before .before .before .before .before .before .before .before .pre .1 .0) (c .before .before .before .before .before .before .before .first .ensures) (c .before .before .before .before .before .before .second .ensures)) (sym (c .before .before .before .before .before .fits-leaf .ensures) ∙ c .before .before .before .before .if1 .taken)
+      (λ bs q. c .before .before .put-leaf .ensures .puts 0 q))
+      refl,
+  keeps-done,
+)
 
 returns-2 : tie.Need-returns-2
-returns-2 c = gives-misfit (start-lacks (leaf-starts _ _ _ _ (c .before .before .before .before .before .before .before .pre .1 .0) (c .before .before .before .first .ensures) (c .before .before .second .ensures)) (sym (c .before .fits-leaf .ensures) ∙ c .if1 .left))
+returns-2 c = (gives-misfit (start-lacks (leaf-starts _ _ _ _ (c .before .before .before .before .before .before .before .pre .1 .0) (c .before .before .before .first .ensures) (c .before .before .second .ensures)) (sym (c .before .fits-leaf .ensures) ∙ c .if1 .left)), keeps-same)
 
 pub leaf-item-spec : {M : Type 1} → statement M
 leaf-item-spec =

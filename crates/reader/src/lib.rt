@@ -332,7 +332,6 @@ fn read_with(
 pub fn read(table: &[u8], message: &[u8], store: &mut [u64]) -> ReadAnswer
     ensures { λ r. ⌜ Reads (reads (now (table .entry)) (now (message .entry)) (now (store .entry))) (now (store .entry)) r (now (store .exit)) ⌝ }
 {
-    let room = entry::room(store.len());
     let checked = table::check(table);
     match checked {
         Checked::Bad { why, place } => ReadAnswer::Refused {
@@ -343,6 +342,19 @@ pub fn read(table: &[u8], message: &[u8], store: &mut [u64]) -> ReadAnswer
         Checked::Good { layout } => {
             let root = table::root_at(table);
             let way = table::flat(table, layout, layout.nodes, root, 1);
+            let room = entry::room(store.len());
+            // A root that is a leaf is read here: laying all out for the cycle takes longer than most leaves. It is not read by
+            // `read_item::read_leaf`, for which the message would be laid out once more; where there is no room, the cycle says so.
+            if !way.headed {
+                let node = table::u16_at(table, root);
+                let number = table::kind_at(table, layout, node);
+                if !table::is_inner(number) {
+                    if 0 < room {
+                        let item = leaf::take(number, message, 0);
+                        return read_item::lay(item, 0, store, 0);
+                    }
+                }
+            }
             read_rounds(
                 false,
                 table,

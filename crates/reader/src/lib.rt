@@ -328,7 +328,7 @@ fn read_with(
 }
 
 // Reads a message by a table: where it ends or why it is refused, and the entries made, which stand in front in the store.
-// It is not `read_with`, which has several callers and so stays a call: one T took 506 instructions by it and takes 473.
+// It is not `read_with`, which has several callers and so stays a call.
 pub fn read(table: &[u8], message: &[u8], store: &mut [u64]) -> ReadAnswer
     ensures { λ r. ⌜ Reads (reads (now (table .entry)) (now (message .entry)) (now (store .entry))) (now (store .entry)) r (now (store .exit)) ⌝ }
 {

@@ -73,7 +73,7 @@ fn read_item(
         match int {
             Int::Is { item } => {
                 let got = read_item::lay(item, place, store, made);
-                // Made anew, so that it does not go through memory with other answers; so is the next one.
+                // Made anew, so that it does not go through memory with other answers.
                 let ReadAnswer::Done {
                     place: behind,
                     count,
@@ -90,7 +90,7 @@ fn read_item(
         }
     }
     if table::is_inner(number) {
-        let got = read_inner(
+        return read_inner(
             strict,
             table,
             l,
@@ -102,17 +102,6 @@ fn read_item(
             store,
             made,
         );
-        let ReadAnswer::Done {
-            place: behind,
-            count,
-        } = got
-        else {
-            return got;
-        };
-        return ReadAnswer::Done {
-            place: behind,
-            count,
-        };
     }
     read_item::read_leaf(strict, number, part, place, store, made)
 }

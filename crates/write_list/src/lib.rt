@@ -163,19 +163,7 @@ fn put_item(
         return Put::Misfit { at };
     }
     if table::is_inner(number) {
-        let got = inner_item(table, l, node, number, words, at, pool, out, used, judged);
-        // Made anew, so that a leaf's answer does not go through memory with this one.
-        let Put::Done {
-            at: next,
-            used: more,
-        } = got
-        else {
-            return got;
-        };
-        return Put::Done {
-            at: next,
-            used: more,
-        };
+        return inner_item(table, l, node, number, words, at, pool, out, used, judged);
     }
     leaf_item(number, words, at, pool, out, used, judged)
 }

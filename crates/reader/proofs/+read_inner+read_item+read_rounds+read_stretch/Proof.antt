@@ -149,8 +149,8 @@ module _ (t : ℕ) where
         (s .pre .1 .0, (s .pre .1 .1 .0, (record { kind = c .before .before .before .before .kind-at .ensures; inner = inner }, (omega arith, s .pre .1 .1 .1)))),
       )
 
-  item-returns-6 : read-item-lts.Need-returns-6 item-calls item-at read-item.Post
-  item-returns-6 c =
+  item-returns-5 : read-item-lts.Need-returns-5 item-calls item-at read-item.Post
+  item-returns-5 c =
       let s = c .before .before .before .before .before .before .before .before .before .before .before .before in
       let outer = not-inner _ (sym (c .before .before .before .before .before .is-inner .ensures) ∙ c .before .before .before .before .if3 .left) in
       let kind = c .before .before .before .before .before .before .before .kind-at .ensures in
@@ -270,9 +270,8 @@ pub +read-inner+read-item+read-rounds+read-stretch-spec : {M : Type 1} → state
     (item-returns t) (λ c κs. let p = c .before .before .before .before .pre .1 in (p .0, p .1 .0)) (λ c κs. tt) (λ c. c .match .keys1) (item-lay-requires t)
     (λ c. c .match2 .keys1) (λ c. c .match2 .keys2) (λ c. c .before .before .before .before .lay .kept .1 .1 .0) (item-returns-2 t) (λ c. c .before .before .before .before .before .lay .kept .1 .1 .0) (item-returns-3 t)
     (λ c. c .match .keys2) (λ c κs. tt) (item-read-inner-requires t)
-    (λ c. c .match3 .keys1) (λ c. c .match3 .keys2) (λ c. c .before .before .before .before .read-inner .kept .1 .1 .1 .1 .1 .1 .1 .1 .0) (λ c. c .before .before .before .before .read-inner .ensures)
-    (λ c. c .before .before .before .before .before .read-inner .kept .1 .1 .1 .1 .1 .1 .1 .1 .0) (λ c. rw (c .before .got2 .given .1) at (c .before .before .before .before .before .read-inner .ensures))
-    (λ c κs. (c .before .before .before .before .before .before .before .before .before .pre .1 .1 .1, omega arith)) (λ c. c .before .before .read-leaf .kept .1 .1 .1 .1 .0) (item-returns-6 t))
+    (λ c. c .before .before .read-inner .kept .1 .1 .1 .1 .1 .1 .1 .1 .0) (λ c. c .before .before .read-inner .ensures)
+    (λ c κs. (c .before .before .before .before .before .before .before .before .before .pre .1 .1 .1, omega arith)) (λ c. c .before .before .read-leaf .kept .1 .1 .1 .1 .0) (item-returns-5 t))
     (λ t.
     read-rounds-lts.spec (rounds-calls t) (rounds-at t) read-rounds.Post rounds-Inv rounds-μ
     (λ c. (refl, refl, refl)) (λ c κs. tt) (λ c. c .match .keys1) (λ c. c .match .keys2) (λ c. c .before .before .before .before .begin .kept .1 .1 .1 .0 ∙ c .before .before .before .before .before .before .before .loop .inv .2) (rounds-returns t)

@@ -105,10 +105,7 @@ module _ (t : ℕ) where
       (item-inner _ (s .pre .0), (s .pre .1 .0, (s .pre .1 .1 .0, (c .before .before .before .before .before .before .before .before .kind-at .ensures, (is-inner _ (sym (c .before .before .is-inner .ensures) ∙ c .before .if3 .taken), (omega arith, s .pre .1 .1 .1))))))
 
   item-returns-3 : put-item-lts.Need-returns-3 item-calls item-at put-item.Post
-  item-returns-3 c = c .before .before .before .before .inner-item .ensures
-
-  item-returns-4 : put-item-lts.Need-returns-4 item-calls item-at put-item.Post
-  item-returns-4 c = rw (c .before .got .given .1) at (c .before .before .before .before .before .inner-item .ensures)
+  item-returns-3 c = c .before .before .inner-item .ensures
 
   item-leaf-requires : put-item-lts.Need-leaf-item-requires item-calls item-at put-item.Post
   unfolding roomOf
@@ -120,8 +117,8 @@ module _ (t : ℕ) where
       } in
       (leaf, (omega arith, rw (← (node-leaf (s .pre .1 .0) (s .pre .1 .1 .0) _ _ _ (c .before .before .before .before .before .before .before .before .kind-at .ensures) leaf)) (s .pre .1 .1 .1)))
 
-  item-returns-5 : put-item-lts.Need-returns-5 item-calls item-at put-item.Post
-  item-returns-5 c =
+  item-returns-4 : put-item-lts.Need-returns-4 item-calls item-at put-item.Post
+  item-returns-4 c =
       let s = c .before .before .before .before .before .before .before .before .before .before .before .before .before .before .before .before in
       let leaf : IsLeaf _ = record {
         small = node-number (s .pre .1 .0) (s .pre .1 .1 .0) (s .args .pool .now) (s .args .words .now) (s .args .at) (c .before .before .before .before .before .before .before .before .before .before .before .kind-at .ensures);
@@ -249,8 +246,7 @@ pub +inner-item+put-item+put-rounds+put-stretch-spec : {M : Type 1} → statemen
     (λ t.
     put-item-lts.spec (item-calls t) (item-at t) put-item.Post
     (λ c κs. search needs) (λ c κs. search needs) (λ c κs. search needs) (item-first-requires t) (item-put-ready-requires t) (item-add-next t) (λ c. search needs) (item-returns t)
-    (λ c κs. search needs) (item-returns-2 t) (λ c κs. search needs) (item-inner-requires t) (λ c. search needs) (λ c. search needs) (λ c. search needs) (item-returns-3 t)
-    (λ c. search needs) (item-returns-4 t) (item-leaf-requires t) (λ c. search needs) (item-returns-5 t))
+    (λ c κs. search needs) (item-returns-2 t) (λ c κs. search needs) (item-inner-requires t) (λ c. search needs) (item-returns-3 t) (item-leaf-requires t) (λ c. search needs) (item-returns-4 t))
     (λ t.
     put-rounds-lts.spec (rounds-calls t) (rounds-at t) put-rounds.Post rounds-Inv rounds-μ
     (λ c. (going-begin _ _ _ (omega arith), refl)) (λ c κs. search needs) (λ c. search needs) (λ c. search needs) (λ c. search needs) (rounds-returns t)

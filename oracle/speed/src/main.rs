@@ -3,6 +3,7 @@
 //!
 //!   speed leaves     varints and texts
 //!   speed messages   reading and writing
+//!   speed checks     the table's check, beside plain Rust
 //!   speed open       reading with a lent list of open items, beside the first reader
 //!   speed paths      one field by its path, beside a full read
 //!   speed pairs      two messages side by side, beside a read of one
@@ -15,6 +16,7 @@
 //!   speed csv        CSV rows exported and imported, beside plain Rust
 
 mod batch;
+mod checks;
 mod csv;
 mod frames;
 mod leaves;
@@ -34,6 +36,7 @@ fn main() {
     for (name, report) in [
         ("leaves", leaves::report as fn()),
         ("messages", messages::report),
+        ("checks", checks::report),
         ("open", open::report),
         ("paths", paths::report),
         ("pairs", pairs::report),

@@ -342,7 +342,7 @@ pub fn put_leaf(
     put_int(number, first, out, used)
 }
 
-// ---- an integer of a short list
+// ---- an integer that has its places
 
 // Whether an entry is that of an integer that some value has, where so many places are left.
 pub fn is_ready(number: u8, words: &[u64], at: usize, room: usize) -> bool

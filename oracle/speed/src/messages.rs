@@ -14,6 +14,13 @@ pub struct Stock {
     pub count: i32,
 }
 
+/// A count with the product's name, as most messages of a shop are.
+#[derive(Serialize, Deserialize)]
+struct Named<'a> {
+    stock: Stock,
+    name: &'a str,
+}
+
 pub fn stock(i: u64) -> Stock {
     Stock { store: 300 + i as u32, product: 5 + i * 1_000_003, count: -2 - i as i32 }
 }
@@ -144,6 +151,12 @@ pub fn report() {
         .collect();
 
     let table_t = Table::parse(reystavem::samples::TABLE_T).expect("a good table");
+    let mut table_named = table_t.clone();
+    table_named.nodes[3] = Node { kind: STR, kids: vec![] };
+    table_named.nodes.push(Node { kind: STRUCT, kids: vec![0, 1, 2, 3] });
+    table_named.root = 4;
+    let name = name(12);
+    let named = Named { stock: one, name: &name };
 
     let numbers = [
         Sample {
@@ -152,6 +165,15 @@ pub fn report() {
             message: written(&one),
             typed_read: &read_as::<Stock>,
             typed_write: &|out| postcard::to_slice(black_box(&one), out).unwrap().len(),
+        },
+        Sample {
+            name: "T and a name",
+            table: table_named,
+            message: written(&named),
+            typed_read: &|message| {
+                black_box(postcard::from_bytes::<Named>(message).is_ok());
+            },
+            typed_write: &|out| postcard::to_slice(black_box(&named), out).unwrap().len(),
         },
         Sample {
             name: "1,000 T",
@@ -181,7 +203,7 @@ pub fn report() {
         "ours, ns | the crate by a table, ns | the crate with types, ns | ours / by a table | ours / with types |";
     println!("| Reading | {head}\n|---|---|---|---|---|---|");
     samples().for_each(Sample::reading);
-    numbers[1].reading_cold();
+    numbers[2].reading_cold();
     println!("\n| Writing | {head}\n|---|---|---|---|---|---|");
     samples().for_each(Sample::writing);
 }

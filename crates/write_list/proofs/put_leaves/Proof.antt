@@ -1,4 +1,4 @@
--- `write_list::put_leaves` meets its contract: which is the loop's invariant: a leaf that was put is the first step of the row that is left.
+-- `write_list::put_leaves` meets its contract, which is the loop's invariant: a leaf that was put is the first step of the row that is left.
 -- Assumes nothing.
 use mathlib.Core.Path.{_≡_, refl}
 use native.Mathlib.Omega.{arith}

@@ -8,7 +8,7 @@ use Prim.Native.Nat.{ℕ, _+_, _-_, _<_, _≤_}
 use native.Mathlib.Omega.{arith}
 use lib.ListN.{length, take, drop}
 use lib.Dec.{ltb, leb, eqb}
-use borrow.Author.Tests.{lt-ltb, le-ltb, le-leb, lt-leb, leb-true}
+use borrow.Author.Tests.{lt-ltb, le-ltb, le-leb, lt-leb, leb-true, eqb-true, eqb-false}
 use Rattle.wire.specs.Tests.{pick, both}
 use Rattle.wire.specs.Shape.{bits, signed, unsigned, Plain, bool, i8, u8, f32, f64, char, unit, int, fixed, Kind, plain, pooled, option, sequence, map, struct, enum}
 use Rattle.wire.specs.Numbers.{isWord}
@@ -17,7 +17,7 @@ use Rattle.wire.specs.Table.{kinds, kindOf}
 use Rattle.wire.specs.Values.{part, isPooled}
 use Rattle.wire.specs.Reading.{isContent}
 use Rattle.wire.specs.Writing.{when, single, plainBytes, headBytes}
-use Rattle.laws.proofs.Splits.{by-test, not-both, both-left, both-right}
+use Rattle.laws.proofs.Splits.{by-test, not-both, both-left, both-right, by-lt}
 use Rattle.laws.proofs.Rule.{at}
 use Rattle.laws.proofs.Own.{single-second}
 use Rattle.laws.proofs.EachKind.{end, _&_, in-kinds}
@@ -176,6 +176,13 @@ module _ (pool : List ℕ) (a b : ℕ) where
   pub judges-bytes : (k n : ℕ) {r : Bool} → k ≡ 13 → r ≡ both (leb (a + b) (length pool)) (isContent (contentIf false) (part pool a b)) → r ≡ isSome (headBytes (kindOf k) n pool a b)
   unfolding numbered contentIf
   judges-bytes k n q e = rw q (e ∙ some-when _ _)
+
+  -- of either
+  pub judges-pooled : (k n : ℕ) {r : Bool} → 12 ≤ k → k ≤ 13 → r ≡ both (leb (a + b) (length pool)) (isContent (contentIf (eqb k 12)) (part pool a b)) → r ≡ isSome (headBytes (kindOf k) n pool a b)
+  judges-pooled k n l h e =
+      by-test (eqb k 12)
+      (λ t. judges-text k n (eqb-true k 12 t) (rw t at e))
+      (λ f. judges-bytes k n (let z = eqb-false k 12 f in by-lt k 13 (λ m. absurd (z (omega arith))) (λ m. omega arith)) (rw f at e))
 
 -- by one computed test of the list of kinds
 pub not-pooled : (k : ℕ) → k < 32 → (12 ≤ k → k ≤ 13 → ⊥) → isPooled (kindOf k) ≡ false

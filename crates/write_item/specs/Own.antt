@@ -13,6 +13,8 @@ use Rattle.wire.specs.Writing.{headBytes}
 use Rattle.wire.specs.Answers.{roomOf}
 use Rattle.entry.specs.Words.{firstAt, secondAt}
 use Rattle.output.specs.Bytes.{Puts}
+use Rattle.write_item.specs.declared.Pooled.{Pooled}
+use Rattle.write_item.specs.declared.Pooled.the-variants.{Put, Misfit}
 
 -- six integers in the order of their kinds
 unfoldable pub signAt : ℕ → Sign
@@ -67,3 +69,13 @@ pub record SpellsEntry (k : Kind) (pool : List ℕ) (a b u : ℕ) (out : List �
 -- with any pool and any second word
 pub record Spells (k : Kind) (a u : ℕ) (out : List ℕ) (r : ℕ) (after : List ℕ) : Type 0 where
   pub with : (pool : List ℕ) (b : ℕ) → SpellsEntry k pool a b u out r after
+
+-- ---- a text or bytes, of the kind's number k
+
+-- some value has the entry, and its bytes were put; or none has it, and nothing was
+abbrev pub PoolsBy : (k : ℕ) → (pool : List ℕ) → (a b u : ℕ) → (before : List ℕ) → Pooled → List ℕ → Type 0
+PoolsBy k pool a b u before (Put n) out = (isSome (headBytes (kindOf k) 0 pool a b) ≡ true) × SpellsEntry (kindOf k) pool a b u before n out
+PoolsBy k pool a b u before Misfit out = (isSome (headBytes (kindOf k) 0 pool a b) ≡ false) × (out ≡ before)
+
+pub record Pools (k : ℕ) (pool : List ℕ) (a b u : ℕ) (before : List ℕ) (r : Pooled) (out : List ℕ) : Type 0 where
+  pub holds : PoolsBy k pool a b u before r out

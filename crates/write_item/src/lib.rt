@@ -18,7 +18,7 @@ ghost use Rattle.zigzag.specs.Widths.{widthOf};
 ghost use Rattle.fixint.specs.Sizes.{orderOf};
 ghost use Rattle.texts.specs.Contents.{contentIf};
 ghost use Rattle.output.specs.Bytes.{Puts};
-ghost use Rattle.write_item.specs.Own.{signAt, widthAt, isSome, Known, JudgesLeaf, Judges, Lets, Fits, Ready, Spells, SpellsEntry};
+ghost use Rattle.write_item.specs.Own.{signAt, widthAt, isSome, Known, JudgesLeaf, Judges, Lets, Fits, Ready, Spells, SpellsEntry, Pools};
 
 // ---- chars, texts and bytes
 
@@ -340,6 +340,33 @@ pub fn put_leaf(
         return put_rest(number, first, second, pool, out, used);
     }
     put_int(number, first, out, used)
+}
+
+// ---- a text or bytes, judged and put at once
+
+// So many bytes there are now, or that no value has the entry.
+pub enum Pooled {
+    Put { used: usize },
+    Misfit,
+}
+
+pub fn put_pooled(
+    number: u8,
+    first: u64,
+    second: u64,
+    pool: &[u8],
+    out: &mut [u8],
+    used: usize,
+) -> Pooled
+    requires { ⌜ (12 ≤ number) × (number ≤ 13) ⌝ }
+    ensures { λ r. ⌜ Pools number (now (pool .entry)) first second used (now (out .entry)) r (now (out .exit)) ⌝ }
+{
+    let ok = fits_part(first, second, pool, number == 12);
+    if ok {
+        let more = put_part(first, second, pool, out, used);
+        return Pooled::Put { used: more };
+    }
+    Pooled::Misfit
 }
 
 // ---- an integer that has its places

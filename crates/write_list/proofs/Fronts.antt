@@ -1,17 +1,21 @@
 -- The leaves in front of a list: an entry that is ready is a leaf's, and the row behind the entry that heads it is the whole list.
 -- Assumes nothing.
 use mathlib.Core.Path.{_≡_, refl, sym, _∙_}
+use mathlib.Core.Bool.{true, false}
 use mathlib.Core.List.{List}
-use Prim.Native.Nat.{ℕ, _+_, _^_, _<_}
+use Prim.Native.Nat.{ℕ, _+_, _^_, _<_, _≤_}
 use native.Mathlib.Omega.{arith}
 use lib.ListN.{length}
 use Rattle.wire.specs.declared.Layout.{Layout}
 use Rattle.wire.specs.declared.Checked.the-variants.{Good}
 use Rattle.wire.specs.Table.{kindOf, nodeAt, recordOf, shapeOf, check}
-use Rattle.wire.specs.Writing.{Wrote, writing, write}
+use Rattle.wire.specs.Writing.{Wrote, headBytes, writing, write}
+use Rattle.wire.specs.Answers.{roomOf}
 use Rattle.laws.specs.KindRanges.{IsLeaf}
 use Rattle.laws.specs.Tables.{GoodTable}
-use Rattle.write_item.specs.Own.{Fitting, Spells}
+use Rattle.write_item.specs.declared.Pooled.{Pooled}
+use Rattle.write_item.specs.declared.Pooled.the-variants as pooled
+use Rattle.write_item.specs.Own.{isSome, Fitting, SpellsEntry, Spells, Pools}
 use Rattle.write_list.specs.declared.Put.{Put}
 use Rattle.write_list.specs.declared.Put.the-variants.{Done, Misfit}
 use Rattle.table.specs.declared.Way.{Way}
@@ -21,8 +25,8 @@ use Rattle.write_list.specs.declared.Ahead.{Ahead}
 use Rattle.write_list.specs.declared.Begun.{Begun}
 use Rattle.write_list.specs.declared.Begun.the-variants.{At}
 use Rattle.write_list.specs.Steps.{entries, Gives, Begins, Leads, LeafPut, Leaf, Reaches, Nothing}
-use Rattle.entry.specs.Words.{firstAt}
-use Rattle.write_list.proofs.Going.{going-begin, going-on, going-end, keeps-same}
+use Rattle.entry.specs.Words.{firstAt, secondAt}
+use Rattle.write_list.proofs.Going.{going-begin, going-on, going-end, keeps-done, keeps-same}
 use Rattle.write_list.proofs.Nodes.{start-going, leaf-starts, node-leaf}
 use Rattle.write_list.proofs.Rounds.{Flattened, flattened, round-one, row-one, root-once}
 
@@ -42,6 +46,19 @@ leaf-gives good below ek {ws} {e} {pool} p = rw (node-leaf good below pool ws e 
 -- none was put
 pub no-leaf : {k : ℕ} {ws : List ℕ} {e : ℕ} {pool : List ℕ} {u : ℕ} {before : List ℕ} {i : ℕ} → Leaf k ws e pool u before (Misfit i) before
 no-leaf {i = i} = record { put = λ {j} {n} e. let z : _≡_ {A = Put} (Misfit i) (Done j n) = e in let o : _≡_ {A = ℕ} 0 1 = cc in absurd (omega arith); kept = keeps-same }
+
+-- a text or bytes, which was put or not
+module _ {k : ℕ} {pool : List ℕ} {a b u : ℕ} {before : List ℕ} {r : Pooled} {out : List ℕ} (p : Pools k pool a b u before r out) {ws : List ℕ} {e : ℕ} where
+  pub content-put : 12 ≤ k → k ≤ 13 → e < roomOf ws → a ≡ firstAt ws e → b ≡ secondAt ws e → {n : ℕ} → r ≡ pooled.Put n → Leaf k ws e pool u before (Done (e + 1) n) out
+  content-put l h more ea eb {n} q =
+      let d : (isSome (headBytes (kindOf k) 0 pool a b) ≡ true) × SpellsEntry (kindOf k) pool a b u before n out = rw q at (p .holds) in
+      let leaf : IsLeaf k = record { small = omega (arith, h); outer = λ i. omega (arith, h, i .0) } in
+      record { put = λ z. record { leaf = leaf; more = more; gives = going-end (start-going (leaf-starts (kindOf k) pool ws e more ea eb) (d .0) (λ bs s. d .1 .puts 0 s)) refl }; kept = keeps-done }
+
+  pub content-none : r ≡ pooled.Misfit → {i : ℕ} → Leaf k ws e pool u before (Misfit i) out
+  content-none q =
+      let d : (isSome (headBytes (kindOf k) 0 pool a b) ≡ false) × (out ≡ before) = rw q at (p .holds) in
+      rw (d .1) no-leaf
 
 -- ---- how far a list was put
 

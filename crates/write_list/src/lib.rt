@@ -1,6 +1,7 @@
 // A value list gone through by a table: its entries are judged, and their bytes put behind one another.
 use table::Stretch;
 use wire::Layout;
+use write_item::Pooled;
 ghost use mathlib.Core.Path.{_≡_};
 ghost use Prim.Native.Nat.{_/_, _<_, _≤_};
 ghost use Rattle.wire.specs.declared.Checked.the-variants.{Good};
@@ -411,6 +412,34 @@ fn put_ints(
     }
 }
 
+// A text's or bytes', by no more calls than these take: a name is what most lists have beside numbers.
+fn put_content(
+    number: u8,
+    words: &[u64],
+    at: usize,
+    pool: &[u8],
+    out: &mut [u8],
+    used: usize,
+) -> Put
+    requires { ⌜ (12 ≤ number) × (number ≤ 13) ⌝ }
+    requires { ⌜ at < roomOf (now words) ⌝ }
+    ensures { λ r. ⌜ Leaf number (now (words .entry)) at (now (pool .entry)) used (now (out .entry)) r (now (out .exit)) ⌝ }
+{
+    let first = entry::first(words, at);
+    let second = entry::second(words, at);
+    let got = write_item::put_pooled(number, first, second, pool, out, used);
+    match got {
+        Pooled::Misfit => Put::Misfit { at },
+        Pooled::Put { used: more } => {
+            let next = at + 1;
+            Put::Done {
+                at: next,
+                used: more,
+            }
+        }
+    }
+}
+
 // The entry of a kind's number, where it is a leaf's.
 fn put_leaf(number: u8, words: &[u64], at: usize, pool: &[u8], out: &mut [u8], used: usize) -> Put
     requires { ⌜ number < 32 ⌝ }
@@ -422,7 +451,10 @@ fn put_leaf(number: u8, words: &[u64], at: usize, pool: &[u8], out: &mut [u8], u
     if table::is_inner(number) {
         return Put::Misfit { at };
     }
-    leaf_item(number, words, at, pool, out, used, false)
+    match number {
+        12..=13 => put_content(number, words, at, pool, out, used),
+        _ => leaf_item(number, words, at, pool, out, used, false),
+    }
 }
 
 // The leaves behind what was put of a row, up to another item or an entry that no value has.

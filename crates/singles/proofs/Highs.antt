@@ -74,7 +74,7 @@ module _ {s : List ℕ} {from i : ℕ} (bytes : AreBytes s) (r : Same s from i) 
     unfolding highs
     last-four place e h = subst (Same s from) place (tested bytes r 4 a low (omega (arith, r .inside)) (omega arith) e h)
 
--- past the first four of all
-pub first-four : {s : List ℕ} → AreBytes s → 4 ≤ length s → {ok : Bool} → ok ≡ eqb (bitAnd (little (take 4 (drop 0 s))) 0x8080_8080) 0 → ok ≡ true → Same s 0 4
+-- past the next four
+pub four-ahead : {s : List ℕ} → AreBytes s → (i j : ℕ) → i + 4 ≡ j → i + 4 ≤ length s → {ok : Bool} → ok ≡ eqb (bitAnd (little (take 4 (drop i s))) 0x8080_8080) 0 → ok ≡ true → Same s i j
 unfolding highs
-first-four {s} bytes inside e h = tested bytes (here s 0 (omega arith)) 4 0 (omega arith) (omega arith) inside e h
+four-ahead {s} bytes i j place inside e h = subst (Same s i) place (tested bytes (here s i (omega arith)) 4 i (omega arith) (omega arith) inside e h)

@@ -32,7 +32,7 @@ single {s} {from} {i} j e h b r =
     on r (subst (Same s i) e (record { up = omega arith; inside = omega arith; same = past }))
 
 -- past up to four of them
-module _ {s : List ℕ} {from i : ℕ} (r : Same s from i) (h : i + 4 ≤ length s) (b0 : getD s i 0 < 0x80) where
+module _ {s : List ℕ} {from i : ℕ} (r : Same s from i) (h : i + 3 ≤ length s) (b0 : getD s i 0 < 0x80) where
   pub one-on : Same s from (i + 1)
   one-on = single (i + 1) refl (omega arith) b0 r
 
@@ -44,8 +44,8 @@ module _ {s : List ℕ} {from i : ℕ} (r : Same s from i) (h : i + 4 ≤ length
       pub three-on : Same s from (i + 3)
       three-on = single (i + 3) (omega arith) (omega arith) b2 two-on
 
-      pub four-on : getD s (i + 3) 0 < 0x80 → Same s from (i + 4)
-      four-on b3 = single (i + 4) (omega arith) (omega arith) b3 three-on
+      pub four-on : i + 4 ≤ length s → getD s (i + 3) 0 < 0x80 → Same s from (i + 4)
+      four-on h b3 = single (i + 4) (omega arith) (omega arith) b3 three-on
 
 pub all-read : {s : List ℕ} {from i : ℕ} → Same s from i → length s ≤ i → true ≡ utf8 (drop from s)
 unfolding utf8 utf8F

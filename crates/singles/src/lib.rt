@@ -54,8 +54,8 @@ fn after_words(s: &[u8], from: usize) -> usize
     i
 }
 
-// The same, eight in a turn: between other chars, and for what longer turns leave.
-pub fn after_eights(s: &[u8], from: usize) -> usize
+// The same, eight in a turn, for what longer turns leave.
+fn after_eights(s: &[u8], from: usize) -> usize
     requires { ⌜ Start (now s) from ⌝ }
     ensures { λ r. ⌜ Same (now (s .entry)) from r ⌝ }
 {
@@ -71,7 +71,7 @@ pub fn after_eights(s: &[u8], from: usize) -> usize
 }
 
 // A place behind single bytes only, with no four more of them: four are tested in a turn, for speed.
-pub fn after_ascii(s: &[u8], from: usize) -> usize
+fn after_ascii(s: &[u8], from: usize) -> usize
     requires { ⌜ Start (now s) from ⌝ }
     ensures { λ r. ⌜ Same (now (s .entry)) from r ⌝ }
 {
@@ -96,6 +96,54 @@ pub fn after_ascii(s: &[u8], from: usize) -> usize
         i = i + 4;
     }
     i
+}
+
+// A place behind single bytes only, of which there are at most three.
+fn after_three(s: &[u8], from: usize) -> usize
+    requires { ⌜ from + 3 ≤ length (now s) ⌝ }
+    ensures { λ r. ⌜ Same (now (s .entry)) from r ⌝ }
+{
+    let b0 = s[from];
+    if 0x80 <= b0 {
+        return from;
+    }
+    let b1 = s[from + 1];
+    if 0x80 <= b1 {
+        return from + 1;
+    }
+    let b2 = s[from + 2];
+    if 0x80 <= b2 {
+        return from + 2;
+    }
+    from + 3
+}
+
+// The same of at most seven, four of them by one test.
+fn after_seven(s: &[u8], from: usize) -> usize
+    requires { ⌜ from + 8 ≤ length (now s) ⌝ }
+    ensures { λ r. ⌜ Same (now (s .entry)) from r ⌝ }
+{
+    let four = four_single(s, from);
+    if four {
+        return after_three(s, from + 4);
+    }
+    after_three(s, from)
+}
+
+// A place behind single bytes only, between other chars: the next is no single one, or the end is near.
+pub fn after_run(s: &[u8], from: usize) -> usize
+    requires { ⌜ Start (now s) from ⌝ }
+    ensures { λ r. ⌜ Same (now (s .entry)) from r ⌝ }
+{
+    let mut i = from;
+    while 8 <= s.len() - i {
+        let single = eight_single(s, i);
+        if !single {
+            return after_seven(s, i);
+        }
+        i = i + 8;
+    }
+    after_ascii(s, i)
 }
 
 // A place behind single bytes only in a text of eight bytes or more. The last of them, fewer than eight, are tested together

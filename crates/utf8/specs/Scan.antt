@@ -5,12 +5,10 @@ use mathlib.Core.Bool.{Bool, false}
 use mathlib.Core.List.{List, []}
 use Prim.Native.Nat.{ℕ, _/_, _%_, _<_, _≤_}
 use lib.ListN.{length, getD, drop}
-use lib.Dec.{leb}
+use lib.Dec.{leb, eqb}
 use Rattle.wire.specs.Tests.{both}
 use Rattle.wire.specs.Text.{widthOf, lowOf, highOf, utf8}
 use Rattle.singles.specs.Passed.{Same}
-use Rattle.utf8.specs.declared.Sequence.{Sequence}
-use Rattle.utf8.specs.declared.Sequence.the-variants.{Ends, Bad}
 
 -- the table, in rows of sixteen, holds the width of each byte
 pub record AreWidths (widths : List (List ℕ)) : Type 0 where
@@ -20,13 +18,17 @@ pub record AreWidths (widths : List (List ℕ)) : Type 0 where
 unfoldable pub isSecond : (lead b : ℕ) → Bool
 isSecond lead b = both (leb (lowOf lead) b) (leb b (highOf lead))
 
--- a place where a byte stands that is no single one, and the table
-pub record Lead (s : List ℕ) (at : ℕ) (widths : List (List ℕ)) : Type 0 where
-  pub inside : at < length s
-  pub high : 0x80 ≤ getD s at 0
-  pub table : AreWidths widths
+-- a sequence of three may start with these two bytes
+unfoldable pub startsThree : (lead b : ℕ) → Bool
+startsThree lead b = both (eqb (widthOf lead) 3) (isSecond lead b)
 
--- a sequence at a place: the rest behind it decides, or nothing does any more
-abbrev pub After : List ℕ → ℕ → Sequence → Type 0
-After s at (Ends p) = (at < p) × Same s at p
-After s at Bad = utf8 (drop at s) ≡ false
+-- a place where a byte stands from low to high
+pub record Starts (s : List ℕ) (at low high : ℕ) : Type 0 where
+  pub inside : at < length s
+  pub from : low ≤ getD s at 0
+  pub to : getD s at 0 ≤ high
+
+-- a place behind whole sequences: the rest there decides, and where none was passed over there is no text
+pub record Behind (s : List ℕ) (from to : ℕ) : Type 0 where
+  pub same : Same s from to
+  pub none : to ≡ from → utf8 (drop from s) ≡ false

@@ -1,14 +1,13 @@
 // UTF-8: whether bytes are a text, a text's first char, and a char's bytes.
 ghost use mathlib.Core.Path.{_≡_};
 ghost use mathlib.Core.Bool.{true};
-ghost use Prim.Native.Nat.{_+_, _<_};
+ghost use Prim.Native.Nat.{_+_, _≤_};
 ghost use lib.Dec.{leb};
-ghost use lib.ListN.{drop};
+ghost use lib.ListN.{length, getD, drop};
 ghost use Rattle.wire.specs.Tests.{both};
 ghost use Rattle.wire.specs.Text.{widthOf, utf8, firstChar, isChar};
-ghost use Rattle.wire.specs.Shape.{char};
 ghost use Rattle.singles.specs.Passed.{Start, Same};
-ghost use Rattle.utf8.specs.Scan.{AreWidths, isSecond, Lead, After};
+ghost use Rattle.utf8.specs.Scan.{AreWidths, isSecond, startsThree, Starts, Behind};
 ghost use Rattle.utf8.specs.Chars.{leadOf, overOf, Form};
 
 // How many bytes a sequence has that starts with a byte, 0 where none does. A row for each high half of the byte.
@@ -31,7 +30,6 @@ const WIDTHS: [[u8; 16]; 16] = [
     [4, 4, 4, 4, 4, 0, 0, 0, 0, 0, 0, 0, 0, 0, 0, 0], // F0
 ];
 
-// A use of a constant array makes it anew: who looks up more than one width makes it once, and lends it.
 fn all_widths() -> [[u8; 16]; 16]
     ensures { λ r. ⌜ AreWidths r ⌝ }
 {
@@ -54,23 +52,31 @@ fn is_in(b: u8, low: u8, high: u8) -> bool
     b <= high
 }
 
-// Whether a byte may follow a lead byte: four of them leave only a part of 80 to BF.
+// Whether a byte may follow a lead byte: four of them leave only a part of 80 to BF. By two short matches, of which the
+// compiler makes no table of jumps: its address would take a register from every text.
 fn is_second(lead: u8, b: u8) -> bool
     ensures { λ r. ⌜ r ≡ isSecond lead b ⌝ }
 {
-    match lead {
-        0xe0 => is_in(b, 0xa0, 0xbf),
-        0xed => is_in(b, 0x80, 0x9f),
-        0xf0 => is_in(b, 0x90, 0xbf),
-        0xf4 => is_in(b, 0x80, 0x8f),
-        _ => is_in(b, 0x80, 0xbf),
+    if lead < 0xf0 {
+        match lead {
+            0xe0 => is_in(b, 0xa0, 0xbf),
+            0xed => is_in(b, 0x80, 0x9f),
+            _ => is_in(b, 0x80, 0xbf),
+        }
+    } else {
+        match lead {
+            0xf0 => is_in(b, 0x90, 0xbf),
+            0xf4 => is_in(b, 0x80, 0x8f),
+            _ => is_in(b, 0x80, 0xbf),
+        }
     }
 }
 
-// A place behind sequences of two bytes only. Where one stands others often follow, and these want no table.
+// A place behind sequences of two bytes only; where none stands, the same place, and the rest is no text. Where one stands
+// others often follow.
 fn after_twos(s: &[u8], from: usize) -> usize
-    requires { ⌜ Start (now s) from ⌝ }
-    ensures { λ r. ⌜ Same (now (s .entry)) from r ⌝ }
+    requires { ⌜ Starts (now s) from 0x80 0xdf ⌝ }
+    ensures { λ r. ⌜ Behind (now (s .entry)) from r ⌝ }
 {
     let mut i = from;
     while 2 <= s.len() - i {
@@ -87,19 +93,36 @@ fn after_twos(s: &[u8], from: usize) -> usize
     i
 }
 
-// The same of three bytes. Lead bytes from E1 to EC leave all of 80 to BF to the second.
+// Whether a sequence of three may start with the two bytes at a place. Most leads, E1 to EC, leave all of 80 to BF to the
+// second, and are told first.
+fn starts_three(s: &[u8], at: usize) -> bool
+    requires { ⌜ at + 2 ≤ length (now s) ⌝ }
+    ensures { λ r. ⌜ r ≡ startsThree (getD (now (s .entry)) at 0) (getD (now (s .entry)) (at + 1) 0) ⌝ }
+{
+    let lead = s[at];
+    let plain = is_in(lead, 0xe1, 0xec);
+    if plain {
+        return is_in(s[at + 1], 0x80, 0xbf);
+    }
+    if lead < 0xe0 {
+        return false;
+    }
+    let second = is_second(lead, s[at + 1]);
+    if !second {
+        return false;
+    }
+    lead < 0xf0
+}
+
+// The same of three bytes.
 fn after_threes(s: &[u8], from: usize) -> usize
-    requires { ⌜ Start (now s) from ⌝ }
-    ensures { λ r. ⌜ Same (now (s .entry)) from r ⌝ }
+    requires { ⌜ Starts (now s) from 0xe0 0xef ⌝ }
+    ensures { λ r. ⌜ Behind (now (s .entry)) from r ⌝ }
 {
     let mut i = from;
     while 3 <= s.len() - i {
-        let lead = is_in(s[i], 0xe1, 0xec);
-        if !lead {
-            return i;
-        }
-        let second = is_in(s[i + 1], 0x80, 0xbf);
-        if !second {
+        let starts = starts_three(s, i);
+        if !starts {
             return i;
         }
         let third = is_in(s[i + 2], 0x80, 0xbf);
@@ -111,48 +134,49 @@ fn after_threes(s: &[u8], from: usize) -> usize
     i
 }
 
-// How a sequence ends: at the place behind it, or nowhere, where a byte lacks or is out of its range.
-enum Sequence {
-    Ends { place: usize },
-    Bad,
+// The same of four bytes.
+fn after_fours(s: &[u8], from: usize) -> usize
+    requires { ⌜ Starts (now s) from 0xf0 0xff ⌝ }
+    ensures { λ r. ⌜ Behind (now (s .entry)) from r ⌝ }
+{
+    let mut i = from;
+    while 4 <= s.len() - i {
+        let lead = s[i];
+        let is = is_in(lead, 0xf0, 0xf4);
+        if !is {
+            return i;
+        }
+        let second = is_second(lead, s[i + 1]);
+        if !second {
+            return i;
+        }
+        let third = is_in(s[i + 2], 0x80, 0xbf);
+        if !third {
+            return i;
+        }
+        let fourth = is_in(s[i + 3], 0x80, 0xbf);
+        if !fourth {
+            return i;
+        }
+        i = i + 4;
+    }
+    i
 }
 
-// The sequence whose lead byte stands at a place, and others like it behind it. No sequence starts with 80 to C1 or with F5 to FF.
-// The place is a sum with a literal: with `wide`, the next sequence would wait for the table.
-fn after_lead(s: &[u8], at: usize, widths: &[[u8; 16]; 16]) -> Sequence
-    requires { ⌜ Lead (now s) at (now widths) ⌝ }
-    ensures { λ r. ⌜ After (now (s .entry)) at r ⌝ }
+// The same of as many bytes as the sequence has that starts at a place. By ranges and not by the table of widths: a use of a
+// constant array makes it anew, and most texts are shorter than that table.
+fn after_alike(s: &[u8], from: usize) -> usize
+    requires { ⌜ Starts (now s) from 0x80 0xff ⌝ }
+    ensures { λ r. ⌜ Behind (now (s .entry)) from r ⌝ }
 {
-    let lead = s[at];
-    let wide = width(widths, lead) as usize;
-    if wide == 0 {
-        return Sequence::Bad;
+    let lead = s[from];
+    if lead < 0xe0 {
+        return after_twos(s, from);
     }
-    if s.len() - at < wide {
-        return Sequence::Bad;
+    if lead < 0xf0 {
+        return after_threes(s, from);
     }
-    let second = is_second(lead, s[at + 1]);
-    if !second {
-        return Sequence::Bad;
-    }
-    if wide == 2 {
-        let place = after_twos(s, at + 2);
-        return Sequence::Ends { place };
-    }
-    let third = is_in(s[at + 2], 0x80, 0xbf);
-    if !third {
-        return Sequence::Bad;
-    }
-    if wide == 3 {
-        let place = after_threes(s, at + 3);
-        return Sequence::Ends { place };
-    }
-    let fourth = is_in(s[at + 3], 0x80, 0xbf);
-    if !fourth {
-        return Sequence::Bad;
-    }
-    let place = at + 4;
-    Sequence::Ends { place }
+    after_fours(s, from)
 }
 
 // Whether the bytes from a place on are a text.
@@ -160,26 +184,23 @@ fn is_rest(s: &[u8], from: usize) -> bool
     requires { ⌜ Start (now s) from ⌝ }
     ensures { λ r. ⌜ r ≡ utf8 (drop from (now (s .entry))) ⌝ }
 {
-    // the constant itself: what `all_widths` returns would be copied here
-    let widths = WIDTHS;
     let mut i = from;
     while i < s.len() {
         let b = s[i];
         if b < 0x80 {
-            let next = singles::after_eights(s, i + 1);
-            i = singles::after_ascii(s, next);
+            i = singles::after_run(s, i + 1);
         } else {
-            let got = after_lead(s, i, &widths);
-            let Sequence::Ends { place } = got else {
+            let next = after_alike(s, i);
+            if next == i {
                 return false;
-            };
-            i = place;
+            }
+            i = next;
         }
     }
     true
 }
 
-// Whether bytes are a text, in one pass. While there are only single bytes, no table is wanted.
+// Whether bytes are a text, in one pass.
 pub fn is_text(s: &[u8]) -> bool
     ensures { λ r. ⌜ r ≡ utf8 (now (s .entry)) ⌝ }
 {

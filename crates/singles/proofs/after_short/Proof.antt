@@ -5,7 +5,7 @@ use borrow.Author.Needs.{needs}
 use Prim.Native.Nat.{_-_}
 use lib.ListN.{length}
 use denote.Ref.{now}
-use Rattle.singles.proofs.Highs.{first-four, last-four}
+use Rattle.singles.proofs.Highs.{four-ahead, last-four}
 use Rattle.singles.proofs.after_short.Statement.{statement}
 use Rattle.singles.proofs.after_short.Tie as tie
 
@@ -19,7 +19,7 @@ four-single-requires-2 : tie.Need-four-single-requires-2
 four-single-requires-2 c κs = search needs
 
 returns : tie.Need-returns
-returns c = last-four (λ i. c .before .before .before .before .shared-slice-known .given i .fits) (first-four (λ i. c .before .before .before .before .shared-slice-known .given i .fits) (c .before .before .before .before .before .pre .0) (c .before .before .before .four-single .ensures) (c .before .before .if1 .taken)) (length (now (c .before .before .before .before .before .args .s)) - 4) (omega arith) (omega arith) (c .before .four-single2 .ensures) (c .if2 .taken)
+returns c = last-four (λ i. c .before .before .before .before .shared-slice-known .given i .fits) (four-ahead (λ i. c .before .before .before .before .shared-slice-known .given i .fits) 0 4 (omega arith) (c .before .before .before .before .before .pre .0) (c .before .before .before .four-single .ensures) (c .before .before .if1 .taken)) (length (now (c .before .before .before .before .before .args .s)) - 4) (omega arith) (omega arith) (c .before .four-single2 .ensures) (c .if2 .taken)
 
 after-ascii-requires : tie.Need-after-ascii-requires
 after-ascii-requires c κs = search needs

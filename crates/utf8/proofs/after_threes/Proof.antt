@@ -1,12 +1,16 @@
 -- `utf8::after_threes` meets its contract: the loop's invariant is that what is to be said of the rest stays.
 -- Assumes nothing.
-use Prim.Native.Nat.{_-_}
+use mathlib.Core.Path.{refl, sym, _∙_}
+use Prim.Native.Nat.{_+_, _-_}
 use native.Mathlib.Omega.{arith}
 use lib.ListN.{length}
+use denote.Ref.{now}
 use borrow.Author.Needs.{needs}
+use borrow.Author.Tests.{not-true, not-false}
+use Rattle.laws.proofs.Utf8.{width-three}
 use Rattle.singles.specs.Passed.{Same}
 use Rattle.singles.proofs.Passed.{here}
-use Rattle.utf8.proofs.Scan.{past-three}
+use Rattle.utf8.proofs.Scan.{Scan, lacking, refused, no-three, past-three, refuses, goes-on, done}
 use Rattle.utf8.proofs.after_threes.Statement.{statement}
 use Rattle.utf8.proofs.after_threes.Tie as tie
 
@@ -17,10 +21,23 @@ abbrev μ-loop : tie.MeasureT-loop
 μ-loop s from i₀ i = length s - i
 
 loop-holds : tie.Need-loop-holds Inv-loop μ-loop
-loop-holds c = here _ _ (search needs)
+loop-holds c = here _ _ (omega arith)
 
 sub-loop : tie.Need-sub-loop Inv-loop μ-loop
 sub-loop c = omega arith
+
+starts-three-requires : tie.Need-starts-three-requires Inv-loop μ-loop
+starts-three-requires c κs = omega arith
+
+returns : tie.Need-returns Inv-loop μ-loop
+returns c = no-three (c .before .before .before .loop .inv) (omega arith) (c .before .before .before .before .before .pre) (sym (c .before .starts-three .ensures) ∙ not-true _ (c .if1 .taken))
+
+-- behind the second byte
+second : (c : tie.Else1 Inv-loop μ-loop) → Scan (now (c .before .before .before .before .before .args .s)) (c .before .before .before .before .before .args .from) 1 0x80 0xbf (c .before .before .before .loop .i + 2)
+second c = past-three (c .before .before .before .loop .inv) (omega arith) (sym (c .before .starts-three .ensures) ∙ not-false _ (c .if1 .left))
+
+add-is-in : tie.Need-add-is-in Inv-loop μ-loop
+add-is-in c = omega arith
 
 shared-slice-read-is-in : tie.Need-shared-slice-read-is-in Inv-loop μ-loop
 shared-slice-read-is-in c = omega arith
@@ -28,32 +45,8 @@ shared-slice-read-is-in c = omega arith
 is-in-requires : tie.Need-is-in-requires Inv-loop μ-loop
 is-in-requires c κs = search needs
 
-returns : tie.Need-returns Inv-loop μ-loop
-returns c = search needs
-
-add-is-in : tie.Need-add-is-in Inv-loop μ-loop
-add-is-in c = omega arith
-
-shared-slice-read-is-in-2 : tie.Need-shared-slice-read-is-in-2 Inv-loop μ-loop
-shared-slice-read-is-in-2 c = omega arith
-
-is-in-requires-2 : tie.Need-is-in-requires-2 Inv-loop μ-loop
-is-in-requires-2 c κs = search needs
-
 returns-2 : tie.Need-returns-2 Inv-loop μ-loop
-returns-2 c = search needs
-
-add-is-in-2 : tie.Need-add-is-in-2 Inv-loop μ-loop
-add-is-in-2 c = omega arith
-
-shared-slice-read-is-in-3 : tie.Need-shared-slice-read-is-in-3 Inv-loop μ-loop
-shared-slice-read-is-in-3 c = omega arith
-
-is-in-requires-3 : tie.Need-is-in-requires-3 Inv-loop μ-loop
-is-in-requires-3 c κs = search needs
-
-returns-3 : tie.Need-returns-3 Inv-loop μ-loop
-returns-3 c = search needs
+returns-2 c = refused (c .before .before .before .before .before .before .loop .inv) (refuses (second (c .before .before .before)) (omega arith) 0 refl (c .before .is-in .ensures) (c .if2 .taken))
 
 add-i : tie.Need-add-i Inv-loop μ-loop
 add-i c = omega arith
@@ -62,10 +55,10 @@ loop-less : tie.Need-loop-less Inv-loop μ-loop
 loop-less c = omega arith
 
 loop-again : tie.Need-loop-again Inv-loop μ-loop
-loop-again c = past-three (c .before .before .before .before .before .before .before .before .before .before .loop .inv) (c .before .before .before .before .before .before .if1 .left) (c .before .before .before .before .is-in2 .ensures) (c .before .before .before .if2 .left) (omega arith) (c .before .before .before .before .before .before .before .is-in .ensures) (omega arith) (omega arith) (c .before .is-in3 .ensures) (c .if3 .left)
+loop-again c = done (goes-on (second (c .before .before .before)) (omega arith) 0 refl (c .before .is-in .ensures) (c .before .before .before .before .before .before .loop .i + 3) (omega arith) (c .if2 .left)) _ refl (omega arith) (omega arith) (omega arith)
 
-returns-4 : tie.Need-returns-4 Inv-loop μ-loop
-returns-4 c = search needs
+returns-3 : tie.Need-returns-3 Inv-loop μ-loop
+returns-3 c = lacking (c .before .loop .inv) (c .before .before .before .pre) (λ l h w. omega (arith, width-three _ l (omega arith)))
 
 pub after-threes-spec : {M : Type 1} → statement M
 after-threes-spec =
@@ -75,18 +68,13 @@ after-threes-spec =
     μ-loop
     loop-holds
     sub-loop
-    shared-slice-read-is-in
-    is-in-requires
+    starts-three-requires
     returns
     add-is-in
-    shared-slice-read-is-in-2
-    is-in-requires-2
+    shared-slice-read-is-in
+    is-in-requires
     returns-2
-    add-is-in-2
-    shared-slice-read-is-in-3
-    is-in-requires-3
-    returns-3
     add-i
     loop-less
     loop-again
-    returns-4)
+    returns-3)

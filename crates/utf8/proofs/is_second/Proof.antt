@@ -1,11 +1,12 @@
 -- `utf8::is_second` meets its contract.
 -- Assumes nothing.
-use mathlib.Core.Path.{_∙_}
+use mathlib.Core.Path.{sym, _∙_}
+use native.Mathlib.Omega.{arith}
 use borrow.Author.Needs.{needs}
-use borrow.Author.Tests.{eq-eqb, ne-eqb}
 use Rattle.wire.specs.Tests.{pick}
 use Rattle.wire.specs.Text.{lowOf, highOf}
 use Rattle.utf8.specs.Scan.{isSecond}
+use Rattle.utf8.proofs.Scan.{whole}
 use Rattle.utf8.proofs.is_second.Statement.{statement}
 use Rattle.utf8.proofs.is_second.Tie as tie
 
@@ -24,6 +25,9 @@ is-in-requires-4 c κs = search needs
 is-in-requires-5 : tie.Need-is-in-requires-5
 is-in-requires-5 c κs = search needs
 
+is-in-requires-6 : tie.Need-is-in-requires-6
+is-in-requires-6 c κs = search needs
+
 returns : tie.Need-returns
 unfolding isSecond lowOf highOf pick
 returns c = rw (c .before .match .keys1) (c .is-in .ensures)
@@ -33,18 +37,18 @@ unfolding isSecond lowOf highOf pick
 returns-2 c = rw (c .before .match .keys2) (c .is-in2 .ensures)
 
 returns-3 : tie.Need-returns-3
-unfolding isSecond lowOf highOf pick
-returns-3 c = rw (c .before .match .keys3) (c .is-in3 .ensures)
+returns-3 c = let k = c .before .match .rest in c .is-in3 .ensures ∙ sym (whole _ _ (k .0 .1) (k .1) (λ e. omega arith) (λ e. omega arith))
 
 returns-4 : tie.Need-returns-4
 unfolding isSecond lowOf highOf pick
-returns-4 c = rw (c .before .match .keys4) (c .is-in4 .ensures)
+returns-4 c = rw (c .before .match2 .keys1) (c .is-in4 .ensures)
 
 returns-5 : tie.Need-returns-5
 unfolding isSecond lowOf highOf pick
-returns-5 c =
-    let k = c .before .match .rest in
-    rw (ne-eqb _ _ (k .0 .0 .0 .1), ne-eqb _ _ (k .0 .1), ne-eqb _ _ (k .0 .0 .1), ne-eqb _ _ (k .1)) (c .is-in5 .ensures)
+returns-5 c = rw (c .before .match2 .keys2) (c .is-in5 .ensures)
+
+returns-6 : tie.Need-returns-6
+returns-6 c = let k = c .before .match2 .rest in c .is-in6 .ensures ∙ sym (whole _ _ (λ e. omega arith) (λ e. omega arith) (k .0 .1) (k .1))
 
 pub is-second-spec : {M : Type 1} → statement M
 is-second-spec =
@@ -55,8 +59,10 @@ is-second-spec =
     is-in-requires-3
     is-in-requires-4
     is-in-requires-5
+    is-in-requires-6
     returns
     returns-2
     returns-3
     returns-4
-    returns-5)
+    returns-5
+    returns-6)

@@ -7,7 +7,7 @@ use mathlib.Core.Option.{some}
 use Prim.Native.Nat.{ℕ, _+_, _-_, _%_, _<_, _≤_}
 use native.Mathlib.Omega.{arith}
 use native.Mathlib.Nat.{mod-eq-of-lt}
-use lib.ListN.{length, take, replicate}
+use lib.ListN.{length, take, replicate, length-take, length-drop}
 use lib.Dec.{leb}
 use lib.Seq.{sets, sets-eq, length-sets, take-append-seam}
 use borrow.Author.Tests.{leb-true}
@@ -20,6 +20,7 @@ use Rattle.wire.specs.Values.{part}
 use Rattle.wire.specs.Writing.{single, withCount, plainBytes, headBytes}
 use Rattle.laws.proofs.Splits.{by-lt, both-left}
 use Rattle.laws.proofs.Own.{when-some, single-some}
+use Rattle.laws.proofs.Contents.{length-withCount}
 use Rattle.laws.proofs.EachKind.{end, _&_, in-kinds}
 use Rattle.laws.proofs.Utf8.{char-text}
 use Rattle.utf8.specs.Chars.{Form}
@@ -143,6 +144,13 @@ module _ (pool : List ℕ) (a b : ℕ) where
   pub fits-part : (k : ℕ) → 12 ≤ k → k ≤ 13 → Fits (kindOf k) pool a b → a + b ≤ length pool
   unfolding kinds
   fits-part k l h f = in-kinds (λ x. Fits x pool a b → a + b ≤ length pool) 12 2 refl (inside _ & inside _ & end) k l (omega arith) f
+
+  -- how many bytes a part has with its count
+  pub length-form : a + b ≤ length pool → {n : ℕ} → n ≡ length (shortest b) → n + b ≡ length (withCount (part pool a b))
+  unfolding part
+  length-form inside e =
+      let whole : length (part pool a b) ≡ b = simp (length-take, length-drop) (omega arith) in
+      rw (length-withCount (part pool a b), whole, e)
 
   module _ {u : ℕ} {out : List ℕ} {r : ℕ} {after : List ℕ} (p : Puts (withCount (part pool a b)) u out r after) where
     content : (c : Content) → SpellsEntry (pooled c) pool a b u out r after

@@ -1,6 +1,7 @@
 // An item's own bytes: whether some value has its entry, and the bytes of one that some value has, put behind others in a lent output.
 ghost use mathlib.Core.Path.{_≡_};
 ghost use mathlib.Core.Bool.{true, false};
+ghost use mathlib.Core.List.{[]};
 ghost use Prim.Native.Nat.{_+_, _≤_};
 ghost use lib.ListN.{length};
 ghost use lib.Dec.{ltb, leb};
@@ -33,7 +34,7 @@ fn put_char(first: u64, out: &mut [u8], used: usize) -> usize
 }
 
 // A part of the pool.
-fn put_part(first: u64, second: u64, pool: &[u8], out: &mut [u8], used: usize) -> usize
+pub fn put_part(first: u64, second: u64, pool: &[u8], out: &mut [u8], used: usize) -> usize
     requires { ⌜ first + second ≤ length (now pool) ⌝ }
     ensures { λ r. ⌜ Puts (withCount (partOf (now (pool .entry)) first second)) used (now (out .entry)) r (now (out .exit)) ⌝ }
 {
@@ -365,6 +366,20 @@ pub fn put_pooled(
     if ok {
         let more = put_part(first, second, pool, out, used);
         return Pooled::Put { used: more };
+    }
+    Pooled::Misfit
+}
+
+// The same, with no place for any byte: it is judged, and its bytes are counted.
+pub fn measure_pooled(number: u8, first: u64, second: u64, pool: &[u8]) -> Pooled
+    requires { ⌜ (12 ≤ number) × (number ≤ 13) ⌝ }
+    ensures { λ r. ⌜ Pools number (now (pool .entry)) first second 0 [] r [] ⌝ }
+{
+    let fits = fits_part(first, second, pool, number == 12);
+    if fits {
+        let size = varint::size(second);
+        let used = output::add(size, second as usize);
+        return Pooled::Put { used };
     }
     Pooled::Misfit
 }

@@ -1,6 +1,6 @@
 -- The leaves in front of a list: an entry that is ready is a leaf's, and the row behind the entry that heads it is the whole list.
 -- Assumes nothing.
-use mathlib.Core.Path.{_≡_, refl, sym, _∙_}
+use mathlib.Core.Path.{_≡_, refl, sym, ap, _∙_}
 use mathlib.Core.Bool.{true, false}
 use mathlib.Core.List.{List}
 use Prim.Native.Nat.{ℕ, _+_, _^_, _<_, _≤_}
@@ -9,10 +9,11 @@ use lib.ListN.{length}
 use Rattle.wire.specs.declared.Layout.{Layout}
 use Rattle.wire.specs.declared.Checked.the-variants.{Good}
 use Rattle.wire.specs.Table.{kindOf, nodeAt, recordOf, shapeOf, check}
-use Rattle.wire.specs.Writing.{Wrote, headBytes, writing, write}
+use Rattle.wire.specs.Writing.{Wrote, misfit, headBytes, writing, write}
 use Rattle.wire.specs.Answers.{roomOf}
 use Rattle.laws.specs.KindRanges.{IsLeaf}
 use Rattle.laws.specs.Tables.{GoodTable}
+use Rattle.laws.proofs.Tables.{good-table}
 use Rattle.write_item.specs.declared.Pooled.{Pooled}
 use Rattle.write_item.specs.declared.Pooled.the-variants as pooled
 use Rattle.write_item.specs.Own.{isSome, Fitting, SpellsEntry, Spells, Pools}
@@ -24,10 +25,10 @@ use Rattle.table.proofs.Stretches.{row-end, root-falls}
 use Rattle.write_list.specs.declared.Ahead.{Ahead}
 use Rattle.write_list.specs.declared.Begun.{Begun}
 use Rattle.write_list.specs.declared.Begun.the-variants.{At}
-use Rattle.write_list.specs.Steps.{entries, Gives, Begins, Leads, LeafPut, Leaf, Reaches, Nothing}
+use Rattle.write_list.specs.Steps.{entries, writeLeaf, Gives, Begins, Leads, LeafPut, Leaf, Reaches, Nothing}
 use Rattle.entry.specs.Words.{firstAt, secondAt}
 use Rattle.write_list.proofs.Going.{going-begin, going-on, going-end, keeps-done, keeps-same}
-use Rattle.write_list.proofs.Nodes.{start-going, leaf-starts, node-leaf}
+use Rattle.write_list.proofs.Nodes.{start-lacks, start-going, leaf-starts, node-leaf}
 use Rattle.write_list.proofs.Rounds.{Flattened, flattened, round-one, row-one, root-once}
 
 -- the entry e, of the node i with the kind's number k
@@ -59,6 +60,21 @@ module _ {k : ℕ} {pool : List ℕ} {a b u : ℕ} {before : List ℕ} {r : Pool
   content-none q =
       let d : (isSome (headBytes (kindOf k) 0 pool a b) ≡ false) × (out ≡ before) = rw q at (p .holds) in
       rw (d .1) no-leaf
+
+pub content-lacks : {k : ℕ} {pool : List ℕ} {a b u : ℕ} {before : List ℕ} {r : Pooled} {out : List ℕ} → Pools k pool a b u before r out → r ≡ pooled.Misfit → (ws : List ℕ) (e : ℕ)
+    → e < roomOf ws → a ≡ firstAt ws e → b ≡ secondAt ws e → writeLeaf (kindOf k) pool (entries ws e) ≡ misfit e
+content-lacks {k} {pool} {a} {b} {before = before} {out = out} p q ws e more ea eb =
+    let d : (isSome (headBytes (kindOf k) 0 pool a b) ≡ false) × (out ≡ before) = rw q at (p .holds) in
+    start-lacks (leaf-starts (kindOf k) pool ws e more ea eb) (d .0)
+
+-- ---- a root that is a leaf
+
+pub root-leaf : (s : List ℕ) {l : Layout} → check s ≡ Good l → {k : ℕ} → k ≡ nodeAt s (recordOf l (l .root)) .number → IsLeaf k → (pool ws : List ℕ)
+    → write (shapeOf s l) pool (entries ws 0) ≡ writeLeaf (kindOf k) pool (entries ws 0)
+unfolding nodeStep write
+root-leaf s {l} good ek leaf pool ws =
+    let g = good-table s l good in
+    ap (λ t. write t pool (entries ws 0)) (g .its-shape) ∙ node-leaf g (g .root-below) pool ws 0 ek leaf
 
 -- ---- how far a list was put
 

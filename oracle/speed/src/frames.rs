@@ -79,10 +79,12 @@ fn raced(chunks: &[&[u8]]) -> [f64; 3] {
     let new = || (Plain { array: [0; ROOM], idx: 0 }, [0; ROOM]);
     let ((mut one, mut message), (mut other, mut other_message)) = (new(), new());
     let [ours, bytes, groups, valued] = race([
-        side(|| chunks.iter().for_each(|chunk| drop(black_box(state.feed_lent(black_box(chunk), &mut lent))))),
-        side(|| chunks.iter().for_each(|chunk| drop(black_box(one.feed(black_box(chunk), &mut message, by_bytes))))),
-        side(|| chunks.iter().for_each(|chunk| drop(black_box(other.feed(black_box(chunk), &mut other_message, by_groups))))),
-        side(|| chunks.iter().for_each(|chunk| drop(black_box(by_value.feed(black_box(chunk)))))),
+        side(|| chunks.iter().for_each(|chunk| _ = black_box(state.feed_lent(black_box(chunk), &mut lent)))),
+        side(|| chunks.iter().for_each(|chunk| _ = black_box(one.feed(black_box(chunk), &mut message, by_bytes)))),
+        side(|| {
+            chunks.iter().for_each(|chunk| _ = black_box(other.feed(black_box(chunk), &mut other_message, by_groups)))
+        }),
+        side(|| chunks.iter().for_each(|chunk| _ = black_box(by_value.feed(black_box(chunk))))),
     ]);
     [ours, bytes.min(groups), valued]
 }
@@ -90,22 +92,22 @@ fn raced(chunks: &[&[u8]]) -> [f64; 3] {
 pub fn report() {
     println!("| Frame of | fed | message with | ours, ns | plain Rust, ns | ratio | ours by value, ns |\n|---|---|---|---|---|---|---|");
     for size in [250, 2_000] {
-        for (name, every) in [
-            ("no zero", 10_000),
-            ("every 8th a zero", 8),
-            ("every 2nd a zero", 2),
-            ("zeros only", 1),
-        ] {
+        for (name, every) in [("no zero", 10_000), ("every 8th a zero", 8), ("every 2nd a zero", 2), ("zeros only", 1)]
+        {
             // As long a message as has a frame of that size.
             let message: Vec<u8> = (1..size).map(|i| if i % every == 0 { 0 } else { (i % 255) as u8 + 1 }).collect();
-            let len = (0..message.len()).rev().find(|&len| frame(&message[..len]).len() <= size).expect("the empty one");
+            let len =
+                (0..message.len()).rev().find(|&len| frame(&message[..len]).len() <= size).expect("the empty one");
             let frame = frame(&message[..len]);
             let mut state = Accumulator::new();
             let (Fed::Frame { message: got, len: got_len }, []) = state.feed(&frame) else { panic!("{name}") };
             assert_eq!(got[..got_len], message[..len], "{name}");
             for (fed, chunks) in [("at once", vec![&frame[..]]), ("by 16 bytes", frame.chunks(16).collect())] {
                 let [ours, plain, valued] = raced(&chunks);
-                println!("| {size} bytes | {fed} | {name} | {ours:.0} | {plain:.0} | {:.2} | {valued:.0} |", ours / plain);
+                println!(
+                    "| {size} bytes | {fed} | {name} | {ours:.0} | {plain:.0} | {:.2} | {valued:.0} |",
+                    ours / plain
+                );
             }
         }
     }

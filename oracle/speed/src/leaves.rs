@@ -1,5 +1,5 @@
 //! Varints by width and length, and texts.
-use crate::messages::{name, SHORT};
+use crate::messages::{name, repeated, LONG, NAMES, SHORT};
 use crate::timing::{race, side};
 use serde::de::DeserializeOwned;
 use std::hint::black_box;
@@ -66,17 +66,13 @@ fn text(name: &str, text: &[u8]) {
     println!("| {name} | {:.0} | {:.0} | {:.2} |", rate(mine), rate(other), mine / other);
 }
 
-/// A name of so many ASCII bytes, in nanoseconds: so few bytes have no rate.
-fn short(len: usize) {
-    let text = &name(len).into_bytes()[..];
-    assert_eq!(call(measure_text, text), 1, "{len} bytes");
+/// A short text in nanoseconds: so few bytes have no rate.
+fn short(name: &str, text: &str) {
+    let text = text.as_bytes();
+    assert_eq!(call(measure_text, text), 1, "{name}");
     let [mine, other] =
         race([side(|| call(measure_text, black_box(text))), side(|| std::str::from_utf8(black_box(text)).is_ok())]);
-    println!("| {len} bytes | {mine:.2} | {other:.2} | {:.2} |", mine / other);
-}
-
-fn repeated(part: &str, len: usize) -> Vec<u8> {
-    part.bytes().cycle().take(len / part.len() * part.len()).collect()
+    println!("| {name} | {mine:.2} | {other:.2} | {:.2} |", mine / other);
 }
 
 pub fn report() {
@@ -86,16 +82,19 @@ pub fn report() {
     width("u32", 5, 15, measure_u32, crate_sum::<u32>);
     width("u64", 10, 1, measure_u64, crate_sum::<u64>);
     println!();
-    println!("| Short text, ASCII | ours, ns | core's from_utf8, ns | ratio |");
+    println!("| Short text | ours, ns | core's from_utf8, ns | ratio |");
     println!("|---|---|---|---|");
     for len in SHORT {
-        short(len);
+        short(&format!("{len} bytes"), &name(len));
+    }
+    for (kind, text) in NAMES {
+        short(&format!("{} bytes, {kind}", text.len()), text);
     }
     println!();
     println!("| Text, 64 KiB | ours, MB/s | core's from_utf8, MB/s | ratio of times |");
     println!("|---|---|---|---|");
-    text("ASCII", &repeated("The quick brown fox jumps over the lazy dog. ", 65536));
-    text("two-byte", &repeated("Περίδρομος", 65536));
-    text("three-byte", &repeated("在庫計画", 65536));
-    text("mixed", &repeated("Milk 3.5% — lait entier, γάλα, 牛乳 🥛; ", 65536));
+    text("ASCII", repeated("The quick brown fox jumps over the lazy dog. ", 65536).as_bytes());
+    for (kind, part) in LONG {
+        text(kind, repeated(part, 65536).as_bytes());
+    }
 }

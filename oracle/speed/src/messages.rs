@@ -128,16 +128,34 @@ pub fn name(len: usize) -> String {
     (0..len).map(|i| (b'a' + (i % 26) as u8) as char).collect()
 }
 
+/// Names as shops have them, with the kind of their chars that aren't ASCII.
+pub const NAMES: [(&str, &str); 3] = [("an accent", "Jalapeño"), ("accents", "Crème brûlée"), ("Hangul", "파프리카")];
+
+/// What long texts repeat: chars of one width, of the lead bytes that leave only a part to the second, and of many.
+pub const LONG: [(&str, &str); 9] = [
+    ("two-byte", "Περίδρομος"),
+    ("three-byte", "在庫計画"),
+    ("four-byte", "🥛🍞🧀"),
+    ("Thai", "ราคาสินค้า"),
+    ("full-width", "ＡＢＣ１２３"),
+    ("Hangul and spaces", "한국 파프리카 재고 "),
+    ("ASCII with accents", "Jalapeño rouge "),
+    ("ASCII with dashes", "Tea – green "),
+    ("mixed", "Milk 3.5% — lait entier, γάλα, 牛乳 🥛; "),
+];
+
+/// As often as it goes into so many bytes.
+pub fn repeated(part: &str, len: usize) -> String {
+    part.repeat(len / part.len())
+}
+
 /// The texts that are read and written, short ones first.
 fn texts() -> Vec<(String, String)> {
     let short = SHORT.map(|len| (format!("text, {len} bytes"), name(len)));
-    let long = [
-        ("text, 64 KiB ASCII", name(65536)),
-        ("text, 64 KiB two-byte", "Περίδρομος".repeat(3276)),
-        ("text, 64 KiB three-byte", "在庫計画".repeat(5461)),
-        ("text, 64 KiB mixed", "Milk 3.5% — lait entier, γάλα, 牛乳 🥛; ".repeat(1300)),
-    ];
-    short.into_iter().chain(long.map(|(name, text)| (name.to_string(), text))).collect()
+    let names = NAMES.map(|(kind, text)| (format!("text, {} bytes, {kind}", text.len()), text.to_string()));
+    let ascii = ("text, 64 KiB ASCII".to_string(), name(65536));
+    let long = LONG.map(|(kind, part)| (format!("text, 64 KiB {kind}"), repeated(part, 65536)));
+    short.into_iter().chain(names).chain([ascii]).chain(long).collect()
 }
 
 pub fn report() {

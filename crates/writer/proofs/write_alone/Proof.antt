@@ -27,7 +27,7 @@ enum-known-got : tie.Need-enum-known-got
 enum-known-got c = search needs
 
 returns : tie.Need-returns
-returns c = let s = c .before .before .before .before .before .before .before .before .before .before in alone-full _ (s .pre .0 .0) (s .pre .0 .1) (s .pre .1) (c .before .before .before .before .before .before .first .ensures) (c .before .before .before .before .before .second .ensures) (c .before .before .before .before .measure-pooled .ensures) _ (few-bytes _ (s .good .1 .1 .1 .0 .1)) (c .before .before .got .given .1) (c .if1 .taken)
+returns c = let s = c .before .before .before .before .before .before .before .before .before .before in alone-full _ (s .pre .0 .0) (s .pre .0 .1) (s .pre .1) (c .before .before .before .before .before .before .first .ensures) (c .before .before .before .before .before .second .ensures) (c .before .before .before .before .measure-pooled .ensures) _ (few-bytes _ (s .good .1 .1 .1 .0 .1)) (c .before .before .got .given .1) (omega arith)
 
 put-part-requires : tie.Need-put-part-requires
 put-part-requires c κs = let s = c .before .before .before .before .before .before .before .before .before .before .before in inside (s .pre .0 .0) (s .pre .0 .1) (c .before .before .before .before .before .measure-pooled .ensures) (c .before .before .before .got .given .1)
@@ -39,7 +39,7 @@ same-length : tie.Need-same-length
 same-length c = search needs
 
 returns-3 : tie.Need-returns-3
-returns-3 c = let s = c .before .before .before .before .before .before .before .before .before .before .before .before .before .before in alone-put _ (s .pre .0 .0) (s .pre .0 .1) (s .pre .1) (c .before .before .before .before .before .before .before .before .before .before .first .ensures) (c .before .before .before .before .before .before .before .before .before .second .ensures) (c .before .before .before .before .before .before .before .before .measure-pooled .ensures) _ (few-bytes _ (s .good .1 .1 .1 .0 .1)) (c .before .before .before .before .before .before .got .given .1) (c .before .before .before .before .if1 .left) (c .before .before .put-part .ensures)
+returns-3 c = let s = c .before .before .before .before .before .before .before .before .before .before .before .before .before .before in alone-put _ (s .pre .0 .0) (s .pre .0 .1) (s .pre .1) (c .before .before .before .before .before .before .before .before .before .before .first .ensures) (c .before .before .before .before .before .before .before .before .before .second .ensures) (c .before .before .before .before .before .before .before .before .measure-pooled .ensures) _ (few-bytes _ (s .good .1 .1 .1 .0 .1)) (c .before .before .before .before .before .before .got .given .1) (omega arith) (c .before .before .put-part .ensures)
 
 pub write-alone-spec : {M : Type 1} → statement M
 write-alone-spec =

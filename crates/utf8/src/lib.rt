@@ -114,7 +114,7 @@ fn starts_three(s: &[u8], at: usize) -> bool
     lead < 0xf0
 }
 
-// The same of three bytes.
+// A place behind sequences of three bytes only, likewise.
 fn after_threes(s: &[u8], from: usize) -> usize
     requires { ⌜ Starts (now s) from 0xe0 0xef ⌝ }
     ensures { λ r. ⌜ Behind (now (s .entry)) from r ⌝ }

@@ -31,12 +31,16 @@ use Rattle.write_list.proofs.Going.{going-begin, going-on, going-end, k
 use Rattle.write_list.proofs.Nodes.{start-lacks, start-going, leaf-starts, node-leaf}
 use Rattle.write_list.proofs.Rounds.{Flattened, flattened, round-one, row-one, root-once}
 
+-- the numbers in front of those with children
+pub low-leaf : (k : ℕ) → k < 15 → IsLeaf k
+low-leaf k h = record { small = omega (arith, h); outer = λ i. omega (arith, h, i .0) }
+
 -- the entry e, of the node i with the kind's number k
 pub ready-gives : {s : List ℕ} {l : Layout} {i : ℕ} → GoodTable s l → i < l .nodes → {k : ℕ} → k ≡ nodeAt s (recordOf l i) .number → {ws : List ℕ} {e room : ℕ} → Fitting k ws e room
     → {a : ℕ} → a ≡ firstAt ws e → {u n : ℕ} {before out : List ℕ} → Spells (kindOf k) a u before n out → (pool : List ℕ)
     → Gives (nodeStep (writing pool) s l i (entries ws e)) ws u before (Done (e + 1) n) out
 ready-gives good below {k} ek {ws} {e} f ea puts pool =
-    let leaf : IsLeaf k = record { small = omega (arith, f .low); outer = λ h. omega (arith, f .low, h .0) } in
+    let leaf : IsLeaf k = low-leaf k (omega (arith, f .low)) in
     rw (node-leaf good below pool ws e ek leaf) (going-end (start-going (leaf-starts (kindOf k) pool ws e (f .more) ea refl) (rw ea (f .fits pool)) (λ bs q. puts .with pool _ .puts 0 q)) refl)
 
 -- the leaf that was put
@@ -53,7 +57,7 @@ module _ {k : ℕ} {pool : List ℕ} {a b u : ℕ} {before : List ℕ} {r : Pool
   pub content-put : 12 ≤ k → k ≤ 13 → e < roomOf ws → a ≡ firstAt ws e → b ≡ secondAt ws e → {n : ℕ} → r ≡ pooled.Put n → Leaf k ws e pool u before (Done (e + 1) n) out
   content-put l h more ea eb {n} q =
       let d : (isSome (headBytes (kindOf k) 0 pool a b) ≡ true) × SpellsEntry (kindOf k) pool a b u before n out = rw q at (p .holds) in
-      let leaf : IsLeaf k = record { small = omega (arith, h); outer = λ i. omega (arith, h, i .0) } in
+      let leaf : IsLeaf k = low-leaf k (omega (arith, h)) in
       record { put = λ z. record { leaf = leaf; more = more; gives = going-end (start-going (leaf-starts (kindOf k) pool ws e more ea eb) (d .0) (λ bs s. d .1 .puts 0 s)) refl }; kept = keeps-done }
 
   pub content-none : r ≡ pooled.Misfit → {i : ℕ} → Leaf k ws e pool u before (Misfit i) out

@@ -15,7 +15,6 @@ use Rattle.wire.specs.Values.{part}
 use Rattle.wire.specs.Writing.{withCount, headBytes}
 use Rattle.wire.specs.Answers.{wordsPer, roomOf, formed}
 use Rattle.laws.specs.Answered.{Writes}
-use Rattle.laws.specs.KindRanges.{IsLeaf}
 use Rattle.entry.specs.Words.{firstAt, secondAt}
 use Rattle.output.specs.Bytes.{Puts}
 use Rattle.write_item.specs.declared.Pooled.{Pooled}
@@ -29,12 +28,7 @@ use Rattle.write_list.proofs.Nodes.{some-fits}
 use Rattle.write_list.proofs.Fronts.{content-put, content-lacks}
 use Rattle.writer.proofs.Promised.{judged-misfit, judged-full, judged-done}
 
-pub content-leaf : (k : ℕ) → 12 ≤ k → k ≤ 13 → IsLeaf k
-content-leaf k l h = record { small = omega (arith, h); outer = λ i. omega (arith, h, i .0) }
-
--- ---- whole entries
-
--- a list of so many of them
+-- a list of so many entries is whole
 pub are-whole : (n at : ℕ) → 3 * at ≡ n → eqb (n % wordsPer) 0 ≡ true
 are-whole n at e = eq-eqb (n % wordsPer) 0 (omega (arith, e))
 

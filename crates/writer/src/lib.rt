@@ -1,5 +1,5 @@
-// Writing a value list by a table: one pass judges the list, measures its form and keeps it in a room, from which it is copied; a second one writes a
-// form that is longer than its room.
+// Writing a value list by a table: one pass judges the list, measures its form and keeps it in a room, from which it is
+// copied; a second one writes a form that is longer than its room. A text or bytes alone is measured and put without one.
 use wire::Checked;
 use wire::Layout;
 use wire::Refusal;

@@ -10,9 +10,9 @@ use Rattle.wire.specs.Answers.{roomOf}
 use Rattle.laws.proofs.Parts.{tail}
 use Rattle.laws.proofs.Tables.{good-table}
 use Rattle.write_list.proofs.Going.{few-bytes}
-use Rattle.write_list.proofs.Fronts.{root-leaf, reaches-end}
+use Rattle.write_list.proofs.Fronts.{low-leaf, root-leaf, reaches-end}
 use Rattle.writer.proofs.Promised.{is-kept, judged-short, writes-whole}
-use Rattle.writer.proofs.Alone.{content-leaf, are-whole}
+use Rattle.writer.proofs.Alone.{are-whole}
 use Rattle.writer.proofs.write_list.Statement.{statement}
 use Rattle.writer.proofs.write_list.Tie as tie
 
@@ -26,7 +26,7 @@ same-length : tie.Need-same-length
 same-length c = search needs
 
 returns : tie.Need-returns
-returns c = let s = c .before .before .before .before .before .before .before .before .before .before .before .before in let leaf = content-leaf (c .before .before .before .before .before .before .kind-at .result) (omega arith) (omega arith) in writes-whole _ _ _ _ (s .pre) (are-whole (length (now (s .args .words))) 1 (omega arith)) (rw (root-leaf _ (s .pre) (c .before .before .before .before .before .before .kind-at .ensures) leaf (now (s .args .pool)) (now (s .args .words))) (c .before .before .write-alone .ensures))
+returns c = let s = c .before .before .before .before .before .before .before .before .before .before .before .before in let leaf = low-leaf (c .before .before .before .before .before .before .kind-at .result) (omega arith) in writes-whole _ _ _ _ (s .pre) (are-whole (length (now (s .args .words))) 1 (omega arith)) (rw (root-leaf _ (s .pre) (c .before .before .before .before .before .before .kind-at .ensures) leaf (now (s .args .pool)) (now (s .args .words))) (c .before .before .write-alone .ensures))
 
 put-nothing-requires : tie.Need-put-nothing-requires
 put-nothing-requires c κs = search needs

@@ -1,5 +1,7 @@
 // The accident that the append question prevents: a new table puts a field in front, and the old one reads other numbers
 // without an error. The same field at the end does no harm.
+#![tactic(auto)]
+
 use say::{say, say_number};
 use wire::{AskAnswer, ReadAnswer};
 

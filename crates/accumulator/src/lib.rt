@@ -1,6 +1,8 @@
 // The accumulator: collects chunks of a stream until a frame's closing zero, and decodes the frame. Behind a frame that is
 // too long it waits for the zero; the bridge's feeds don't.
 // What is right stands in wire's specs/Frames.antt; what lent memory holds then, in specs/Feeding.antt.
+#![tactic(auto)]
+
 ghost use Rattle.std.specs.Prelude.{◌≡◌, false, [], ◌+◌, ◌≤◌, length, drop};
 ghost use Rattle.wire.specs.Frames.{room, to_zero, padded, feed_on, feed_end};
 ghost use Rattle.wire.specs.Frames.{rule, feed_by, feed_bridge, feed_fresh, feed_waiting};
@@ -15,7 +17,7 @@ use wire::FeedAnswer;
 pub const ROOM: usize = decoder::ROOM;
 
 // The state: a frame's first idx bytes stand in the array's front, or the end of an over-full frame is waited for.
-#[derive(Drop)]
+#[derive(Clone, Copy)]
 pub struct Accumulator {
     pub array: [u8; ROOM],
     pub idx: usize,
@@ -24,7 +26,7 @@ pub struct Accumulator {
 
 // What a feed in lent memory answers: the state's new idx, the message's length, and how many bytes
 // of the chunk are consumed.
-#[derive(Drop)]
+#[derive(Clone, Copy)]
 pub struct Step {
     pub answer: FeedAnswer,
     pub idx: usize,
@@ -33,7 +35,7 @@ pub struct Step {
 }
 
 // The same, and whether the state then waits.
-#[derive(Drop)]
+#[derive(Clone, Copy)]
 pub struct Marked {
     pub step: Step,
     pub waiting: bool,
@@ -41,7 +43,7 @@ pub struct Marked {
 
 // What a feed of a state by value answers: the new state, the message with its length and zeros
 // behind it, and how many bytes of the chunk are consumed.
-#[derive(Drop)]
+#[derive(Clone, Copy)]
 pub struct Fed {
     pub answer: FeedAnswer,
     pub state: Accumulator,

@@ -1,5 +1,7 @@
 // Reads the messages of its list, writes what was read again with the message as pool, and says whether the bytes come back;
 // and of a message that doesn't, which item is to blame. crates/recorded/make has the list.
+#![tactic(auto)]
+
 use recorded::field::part;
 use recorded::memory::same_words;
 use say::{front, say, say_bytes, say_why, say_with};

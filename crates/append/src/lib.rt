@@ -1,4 +1,6 @@
 // The append question: whether a new table only appends variants to enums and fields to the root struct of an old one.
+#![tactic(auto)]
+
 ghost use Rattle.std.specs.Prelude.{◌≡◌, true, ◌≤◌, length};
 ghost use Rattle.wire.specs.Table.{is_kind, kind_of, shape_of, check as check_of};
 ghost use Rattle.wire.specs.Append.{is_open, is_open_root, matches, appends as appends_of};

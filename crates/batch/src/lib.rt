@@ -1,4 +1,6 @@
 // The night batch: messages end to end, sorted rows and a trailer that points back. What is right stands in desk's specs/Batch.antt.
+#![tactic(auto)]
+
 ghost use Rattle.std.specs.Prelude.{◌≡◌, ◌<◌, length};
 ghost use Rattle.wire.specs.declared.Checked.TheVariants.{Good as GoodTable};
 ghost use Rattle.wire.specs.Table.{check as check_of};
@@ -21,7 +23,7 @@ use wire::{Checked, Layout, Refusal};
 const TRAILER: usize = 12;
 
 // A batch taken apart by its trailer: its key fields, and where its rows start and end; or why it is refused.
-#[derive(Drop)]
+#[derive(Clone, Copy)]
 pub enum Opened {
     Parts {
         fields: Fields,

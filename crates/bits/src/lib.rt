@@ -1,4 +1,6 @@
 // Bits in bytes that a caller lends: all cleared, one marked, one asked for.
+#![tactic(auto)]
+
 ghost use Rattle.std.specs.Prelude.{◌≡◌, ◌/◌, ◌<◌, length, replicate};
 ghost use Rattle.bits.specs.Marks.{marked, marking};
 

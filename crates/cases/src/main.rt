@@ -1,5 +1,7 @@
 // Reads the messages of its list, document 01's reading cases and three tables that must not take long, and writes what
 // comes back. crates/recorded/make has the list.
+#![tactic(auto)]
+
 use recorded::field::{number_at, part};
 use say::{say, say_bytes, say_entries, say_why, say_with};
 use wire::ReadAnswer;

@@ -1,4 +1,6 @@
 // The fields of a table whose messages have rows: a root struct of few enough fields, each of a kind that a row spells.
+#![tactic(auto)]
+
 ghost use Rattle.std.specs.Prelude.{◌≡◌};
 ghost use Rattle.wire.specs.Table.{kind_of};
 ghost use Rattle.laws.specs.Tables.{GoodTable};
@@ -12,7 +14,7 @@ use wire::Layout;
 const MOST: usize = 1024;
 
 // So many fields' numbers stand at `from` in the table; or it has no rows.
-#[derive(Drop)]
+#[derive(Clone, Copy)]
 pub enum Found {
     Fields { from: usize, width: usize },
     Unfit,

@@ -1,4 +1,6 @@
 // Two messages side by side: the pairs of places of the items in which they differ, in a lent list.
+#![tactic(auto)]
+
 ghost use Rattle.std.specs.Prelude.{◌++◌, ◌≡◌, ◌/◌, ◌≤◌, length, take, drop};
 ghost use Rattle.wire.specs.declared.Checked.TheVariants.{Good};
 ghost use Rattle.wire.specs.Table.{check as check_of};

@@ -1,5 +1,7 @@
 // One item of two messages: its own bytes on both sides and whether it differs; and the pair of a differing item's places, which is
 // stored where the list has words for it.
+#![tactic(auto)]
+
 ghost use Rattle.std.specs.Prelude.{◌≡◌, ◌+◌, ◌/◌, ◌<◌, ◌^◌, length};
 ghost use Rattle.wire.specs.Values.{is_pooled};
 ghost use Rattle.wire.specs.Table.{kind_of, node_at, record_of};
@@ -19,7 +21,7 @@ use wire::{Item, Layout, Own, Refusal};
 pub const WORDS: usize = 2;
 
 // What was taken on both sides: whether it is the same, and its bytes on each; or a side is refused.
-#[derive(Drop)]
+#[derive(Clone, Copy)]
 pub enum Taken {
     Both {
         same: bool,
@@ -31,7 +33,7 @@ pub enum Taken {
 
 // What an item that has children leaves to do: whether it is the same, and on each side its bytes and the stretch that follows it;
 // or a side is refused.
-#[derive(Drop)]
+#[derive(Clone, Copy)]
 pub enum Entered {
     On {
         same: bool,

@@ -1,5 +1,7 @@
 // Two messages gone over at once, item by item, which is also the judge of both readings: the pairs of the places of the items in which
 // they differ go into a list, as far as it has words for them.
+#![tactic(auto)]
+
 ghost use Rattle.std.specs.Prelude.{false, ◌≡◌, ◌+◌, ◌-◌, ◌^◌, ◌≤◌, ◌<◌, length};
 ghost use Rattle.wire.specs.declared.Checked.TheVariants.{Good};
 ghost use Rattle.wire.specs.Table.{check, shape_of};
@@ -21,7 +23,7 @@ use wire::{Layout, ReadAnswer};
 pub const ROOM: usize = 16384;
 
 // Where both messages are gone over to, the entries that each made, and the pairs; or one of them is refused.
-#[derive(Drop)]
+#[derive(Clone, Copy)]
 pub enum Walked {
     Both {
         one: usize,
@@ -36,7 +38,7 @@ pub enum Walked {
 // ---- rounds
 
 // A round's front: the entries that are made then, or no room for its own.
-#[derive(Drop)]
+#[derive(Clone, Copy)]
 enum Begun {
     At { ones: usize, others: usize },
     Full,

@@ -1,5 +1,7 @@
 // The first zero of a chunk, and the message of a frame, decoded group by group.
 // What is right stands in wire's specs/Frames.antt.
+#![tactic(auto)]
+
 ghost use Rattle.std.specs.Prelude.{◌≡◌, [], ◌++◌, ◌+◌, ◌≤◌, length, take, drop, replicate};
 ghost use Rattle.wire.specs.Frames.{room, gap_after, to_zero, padded};
 ghost use Rattle.wire.specs.Frames.{decode as message_of};
@@ -8,13 +10,13 @@ ghost use Rattle.decoder.specs.Parts.{found_of, nowhere, Seeks, with, Decodable,
 // The bytes that a frame may have, its closing zero among them.
 pub const ROOM: usize = 2048;
 
-#[derive(Drop)]
+#[derive(Clone, Copy)]
 pub enum Found {
     At(usize),
     Nothing,
 }
 
-#[derive(Drop)]
+#[derive(Clone, Copy)]
 pub enum Decoded {
     Message(usize),
     Bad,

@@ -1,6 +1,8 @@
 // Items taken one after the other from a message, each by its kind: a record of the message and the place, and the same calls
 // with the message and the place as parameters. The borrow checker covers no function over the record, so each of those is
 // proved by hand and leaves the work to a covered one.
+#![tactic(auto)]
+
 ghost use Rattle.std.specs.Prelude.{◌≡◌, drop};
 ghost use Rattle.wire.specs.Answers.{may_take, takes, place_after};
 ghost use Rattle.deserializer.specs.Records.{fresh, takes_next, moved, rest_from};
@@ -67,7 +69,7 @@ pub fn rest_at(message: &[u8], place: usize) -> &[u8]
 }
 
 // A message and the place of its next item.
-#[derive(Drop)]
+#[derive(Clone, Copy)]
 pub struct Deserializer<'a> {
     pub message: &'a [u8],
     pub place: usize,

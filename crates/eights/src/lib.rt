@@ -1,4 +1,6 @@
 // Eight bytes as one number, so that they are tested in a step.
+#![tactic(auto)]
+
 ghost use Rattle.std.specs.Prelude.{◌≡◌, ◌+◌, ◌≤◌, length, take, drop};
 ghost use Rattle.wire.specs.Numbers.{little};
 

@@ -1,4 +1,6 @@
 // An entry's words: how many there are, and where they stand in a value list or a store.
+#![tactic(auto)]
+
 ghost use Rattle.std.specs.Prelude.{◌≡◌, ◌*◌, ◌/◌, ◌%◌, ◌<◌, take, eqb};
 ghost use Rattle.wire.specs.Answers.{words_per, room_of};
 ghost use Rattle.entry.specs.Words.{first_at, second_at, place_at, with_entry};

@@ -1,5 +1,7 @@
 // The row of a message in a lent output: one pass reads the message, measures the row and keeps it in a room of its own, from which it is
 // copied; a second pass writes only what is longer than that room.
+#![tactic(auto)]
+
 ghost use Rattle.std.specs.Prelude.{true, length};
 ghost use Rattle.columns.specs.Columns.{field_shapes, Rowed};
 ghost use Rattle.put_row.specs.Rows.{fields_from};

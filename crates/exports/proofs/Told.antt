@@ -21,7 +21,7 @@ use Rattle.batch.specs.Writing as batch
 use Rattle.desk.specs.declared.CsvAnswer.{CsvAnswer}
 use Rattle.desk.specs.Csv.{Output, csv_says}
 use Rattle.export_row.specs.Outputs.{Gives}
-use Rattle.csv.specs.Promise.{GivesImport}
+use Rattle.csv_rows.specs.Promise.{GivesImport}
 use Rattle.telling.specs.Told.{Told, count_of, Counted, CountedOpen, ToldAsked, ToldCompared}
 use Rattle.exports.specs.Calls.{Read, ReadOpen, Wrote, Asked, Compared, BatchWrote, CsvWrote, CsvImported}
 

@@ -1,4 +1,6 @@
 // The static library for C and Rust: each public call over plain numbers and slices, as include/reystavem.h declares it.
+#![tactic(auto)]
+
 ghost use Rattle.std.specs.Prelude.{length};
 ghost use Rattle.wire.specs.Table.{check};
 ghost use Rattle.wire.specs.Answers.{check_says, reads, reads_strict, takes, writes, asks};
@@ -272,7 +274,7 @@ pub extern "C" fn reystavem_csv_export(
 ) -> u64
     ensures { CsvWrote (csv_export table.now message.now (length out.old)) out.old result place.new out.new }
 {
-    let got = csv::export(table, message, out);
+    let got = csv_rows::export(table, message, out);
     telling::row(got, place)
 }
 
@@ -285,6 +287,6 @@ pub extern "C" fn reystavem_csv_import(
 ) -> u64
     ensures { CsvImported table.now row.now out.old result place.new out.new }
 {
-    let got = csv::import(table, row, out);
+    let got = csv_rows::import(table, row, out);
     telling::row(got, place)
 }

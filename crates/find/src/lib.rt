@@ -1,4 +1,6 @@
 // One item of a message by its path: whether the path leads to one, by the table alone; and then along the path.
+#![tactic(auto)]
+
 ghost use Rattle.std.specs.Prelude.{◌≡◌, true, [], ◌+◌, ◌*◌, ◌-◌, ◌^◌, ◌<◌, length};
 ghost use Rattle.wire.specs.Table.{u16_at, kind_of, node_at, record_of, shape_of};
 ghost use Rattle.wire.specs.Reading.{front};
@@ -16,7 +18,7 @@ use wire::{Checked, Item, Layout, Own, ReadAnswer, Refusal};
 const ROOM: usize = 16384;
 
 // A step along the path: into a child, at a place, with so many entries made; or the answer.
-#[derive(Drop)]
+#[derive(Clone, Copy)]
 enum Passed {
     In {
         node: usize,

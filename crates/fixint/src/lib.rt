@@ -1,4 +1,6 @@
 // Fixed-size numbers: one, two, four or eight bytes, little-endian, or reversed for big-endian.
+#![tactic(auto)]
+
 ghost use Rattle.std.specs.Prelude.{◌≡◌, ◌*◌, ◌^◌, ◌<◌, ◌≤◌, length};
 ghost use Rattle.std.proofs.Math.ListN as lists;
 ghost use Rattle.wire.specs.Shape.{w16, w32, w64, size, le, be, fixed};

@@ -1,4 +1,6 @@
 // Sends a message as a COBS frame. What a frame is stands in wire's specs/Sending.antt; what the steps leave, in specs/Steps.antt.
+#![tactic(auto)]
+
 ghost use Rattle.std.specs.Prelude.{◌≡◌, ◌+◌, ◌≤◌, length, drop, replicate, leb};
 ghost use Rattle.std.proofs.lemmas.List.Edits.{sets};
 ghost use Rattle.wire.specs.Sending.{sends};

@@ -1,5 +1,7 @@
 // The message of a row in a lent output: one pass reads the row, measures the message and keeps it in a room of its own, from which it is
 // copied; a second pass writes only what is longer than that room.
+#![tactic(auto)]
+
 ghost use Rattle.std.specs.Prelude.{length};
 ghost use Rattle.desk.specs.Csv.{columns};
 ghost use Rattle.columns.specs.Columns.{field_shapes, Rowed};

@@ -1,5 +1,7 @@
 // What a compaction keeps of a good batch, counted and then laid out. A message is kept where the last row of its key leads; these
 // places are marked, a window of them at a time. What is kept stands in desk's specs/Compact.antt.
+#![tactic(auto)]
+
 ghost use Rattle.std.specs.Prelude.{◌≡◌, true, ◌+◌, ◌*◌, ◌^◌, ◌≤◌, ◌<◌, length, leb};
 ghost use Rattle.std.proofs.lemmas.List.Edits.{sets};
 ghost use Rattle.wire.specs.Tests.{pick};
@@ -20,7 +22,7 @@ use wire::Layout;
 const TRAILER: usize = 12;
 
 // How many messages of a batch are kept, and of how many bytes.
-#[derive(Drop)]
+#[derive(Clone, Copy)]
 pub struct Surveyed {
     pub count: usize,
     pub len: usize,

@@ -1,4 +1,6 @@
 // What writing a batch needs: its messages counted and its numbers judged before a byte is written, and then its rows.
+#![tactic(auto)]
+
 ghost use Rattle.std.specs.Prelude.{◌≡◌, ◌+◌, ◌*◌, ◌^◌, ◌≤◌, length, ltb};
 ghost use Rattle.std.proofs.lemmas.List.Edits.{sets};
 ghost use Rattle.wire.specs.Numbers.{little_bytes};
@@ -17,7 +19,7 @@ const FARTHEST: usize = 4294967295;
 const MOST: usize = 268435455;
 
 // How many messages some bytes are, and where the last of them begins; or the reader's own refusal, at its place in all the bytes.
-#[derive(Drop)]
+#[derive(Clone, Copy)]
 pub enum Counted {
     All { count: usize, last: usize },
     Stopped { why: Refusal, place: usize },

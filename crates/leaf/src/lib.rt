@@ -1,4 +1,6 @@
 // One leaf of any kind, from a part of the message that starts at its first byte.
+#![tactic(auto)]
+
 ghost use Rattle.std.specs.Prelude.{◌≡◌, ◌+◌, ◌≤◌, ◌<◌, ◌^◌, length};
 ghost use Rattle.wire.specs.Shape as shapes;
 ghost use Rattle.wire.specs.Numbers as numbers;

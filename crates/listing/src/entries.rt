@@ -13,7 +13,7 @@ use say::{say, say_bytes, say_why, say_with};
 use wire::{Checked, Layout, ReadAnswer, Refusal};
 
 // What follows an item: rounds over the children from one position up to another.
-#[derive(Drop)]
+#[derive(Clone, Copy)]
 struct Span {
     rounds: u64,
     from: usize,

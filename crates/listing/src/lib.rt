@@ -1,4 +1,6 @@
 // Tables, messages and the questions about them in words, on standard output.
+#![tactic(auto)]
+
 pub mod apart;
 pub mod changes;
 pub mod entries;

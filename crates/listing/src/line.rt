@@ -8,7 +8,7 @@ use crate::way::{WORDS, say_end, say_way};
 use say::{front, indent, say, say_bytes, say_with};
 
 // What a reading left to show: so many entries, whether their bytes too, and where the last one's end.
-#[derive(Drop)]
+#[derive(Clone, Copy)]
 pub struct Made {
     pub count: usize,
     pub bytes: bool,

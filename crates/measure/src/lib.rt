@@ -1,4 +1,6 @@
 // Loops over the leaves, so that a driver can time them without a call for each item. No part of the library.
+#![tactic(auto)]
+
 use wire::Item;
 
 // The sum of a message's varints, one after the other, up to the first that is refused.

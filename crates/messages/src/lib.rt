@@ -1,5 +1,7 @@
 // Messages that stand end to end: the key fields of a table's root, and the next message with its key. What a message is stands
 // in desk's specs/Messages.antt.
+#![tactic(auto)]
+
 ghost use Rattle.std.specs.Prelude.{◌≡◌, ◌+◌, ◌-◌, ◌*◌, ◌^◌, ◌<◌, ◌≤◌, length, eqb};
 ghost use Rattle.wire.specs.Numbers.{varint};
 ghost use Rattle.wire.specs.Table.{u16_at, node_at, record_of};
@@ -23,7 +25,7 @@ const ROOM: usize = 16384;
 
 // The key fields of a root struct, in the order in which they stand. Its fields' numbers stand at `from`: some before the first key
 // field, some between the two, some behind the second. The store's is ahead of the product's, or behind it.
-#[derive(Drop)]
+#[derive(Clone, Copy)]
 pub struct Fields {
     pub from: usize,
     pub before: usize,
@@ -33,14 +35,14 @@ pub struct Fields {
 }
 
 // The key fields that a table has at two places, or that they are unfit for it.
-#[derive(Drop)]
+#[derive(Clone, Copy)]
 pub enum Found {
     At { fields: Fields },
     Unfit,
 }
 
 // A key field's word, the place behind it and the entries made, or the reader's own refusal.
-#[derive(Drop)]
+#[derive(Clone, Copy)]
 pub enum Word {
     Took {
         word: u64,
@@ -54,14 +56,14 @@ pub enum Word {
 }
 
 // A key field's word and the place behind it, which lies beyond the bytes if none is taken.
-#[derive(Drop)]
+#[derive(Clone, Copy)]
 pub struct Taken {
     pub word: u64,
     pub behind: usize,
 }
 
 // The words of both key fields in the order in which they stand, and the place behind them, which may lie beyond the bytes.
-#[derive(Drop)]
+#[derive(Clone, Copy)]
 pub struct Both {
     pub one: u64,
     pub other: u64,
@@ -69,7 +71,7 @@ pub struct Both {
 }
 
 // The next message: its key and how many bytes it has, or the reader's own refusal.
-#[derive(Drop)]
+#[derive(Clone, Copy)]
 pub enum NextMessage {
     Message { key: Key, len: usize },
     Stops { why: Refusal, place: usize },

@@ -1,4 +1,6 @@
 // The documents' numbers of answers, as the static library returns them and the programs say them.
+#![tactic(auto)]
+
 ghost use Rattle.std.specs.Prelude.{◌≡◌};
 ghost use Rattle.wire.specs.Answers.{refusal_number, side_number, yes_number, feed_number};
 

@@ -1,4 +1,6 @@
 // Reading a message by a table with its open items in a lent list: no function calls itself, so the stack stays small.
+#![tactic(auto)]
+
 ghost use Rattle.std.specs.Prelude.{◌≡◌, not, ◌∷◌, ◌+◌, ◌*◌, ◌^◌, ◌<◌, ◌≤◌, length, replicate};
 ghost use Rattle.wire.specs.Tests.{both};
 ghost use Rattle.wire.specs.Shape.{depth as chain_of};
@@ -26,7 +28,7 @@ const WORDS: usize = 1024;
 
 // An open item: the `width` numbers at `from` in the table are its children's; of this round the last `left` are unread, and
 // so many rounds follow, each of them headed by a struct's entry or not.
-#[derive(Drop)]
+#[derive(Clone, Copy)]
 pub struct Held {
     pub from: usize,
     pub width: usize,
@@ -36,7 +38,7 @@ pub struct Held {
 }
 
 // How far a step came: so many are left, of a row's numbers or of the open items; or why the reading is refused.
-#[derive(Drop)]
+#[derive(Clone, Copy)]
 pub enum Step {
     On {
         left: usize,

@@ -1,4 +1,6 @@
 // Bytes put behind the first `used` of a lent output, as far as it has places.
+#![tactic(auto)]
+
 ghost use Rattle.std.specs.Prelude.{◌≡◌, [], ◌∷◌, ◌+◌, ◌≤◌, length};
 ghost use Rattle.wire.specs.Numbers.{shortest};
 ghost use Rattle.wire.specs.Writing.{with_count};

@@ -1,4 +1,6 @@
 // Where two tables part, when the append question says no.
+#![tactic(auto)]
+
 ghost use Rattle.std.specs.Prelude.{◌≡◌, ◌≤◌, length};
 ghost use Rattle.wire.specs.declared.Checked.TheVariants.{Good};
 ghost use Rattle.wire.specs.Table.{check as check_of};
@@ -14,7 +16,7 @@ use wire::{Checked, Layout, Refusal, Side};
 const ROOM: usize = 256;
 
 // The new table only appends; or they part so many positions down; or one of them is not good, why and at which node; or the work area is too short.
-#[derive(Drop)]
+#[derive(Clone, Copy)]
 pub enum Parting {
     Appends,
     Apart {
@@ -29,7 +31,7 @@ pub enum Parting {
 }
 
 // Where the way goes on from a pair of nodes: nowhere, or to their children p and q at a position.
-#[derive(Drop)]
+#[derive(Clone, Copy)]
 enum Next {
     Here,
     Down { position: u64, p: usize, q: usize },

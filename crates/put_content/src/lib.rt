@@ -1,5 +1,7 @@
 // The content of a CSV row's text or bytes behind its count, as a message has it: laid behind the first `used` bytes of a lent output
 // where there is room, and counted in any case.
+#![tactic(auto)]
+
 ghost use Rattle.std.specs.Prelude.{◌≡◌, ◌+◌, ◌≤◌, length};
 ghost use Rattle.std.proofs.lemmas.List.Edits.{sets};
 ghost use Rattle.wire.specs.Writing.{with_count};

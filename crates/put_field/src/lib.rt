@@ -1,5 +1,7 @@
 // One field of a CSV row, by its kind: laid behind the first `used` bytes of a lent output where it has room there, and counted in any
 // case. Its one spelling stands in desk's specs/Csv.antt.
+#![tactic(auto)]
+
 ghost use Rattle.std.specs.Prelude.{◌+◌, ◌≤◌, length};
 ghost use Rattle.wire.specs.Table.{kind_of};
 ghost use Rattle.wire.specs.Values.{content};

@@ -1,5 +1,7 @@
 // A number of a CSV row, laid behind the first `used` bytes of a lent output where it has room there, and counted in any case. Its one
 // spelling stands in desk's specs/Csv.antt.
+#![tactic(auto)]
+
 ghost use Rattle.std.specs.Prelude.{◌≡◌, ◌+◌, ◌≤◌, length};
 ghost use Rattle.std.proofs.lemmas.List.Edits.{sets};
 ghost use Rattle.desk.specs.Csv.{decimal, spelled_word};

@@ -1,5 +1,7 @@
 // A char, a text or bytes of a CSV row, between quotes: laid behind the first `used` bytes of a lent output where there is room, and
 // counted in any case. Their one spelling stands in desk's specs/Csv.antt.
+#![tactic(auto)]
+
 ghost use Rattle.std.specs.Prelude.{◌≡◌, true, [], ◌∷◌, ◌+◌, ◌≤◌, ltb, eqb, length};
 ghost use Rattle.std.proofs.lemmas.List.Edits.{sets};
 ghost use Rattle.wire.specs.Tests.{pick};

@@ -1,4 +1,6 @@
 // The row of a message, field by field as the message is read: laid in a lent output where all of it has room, and counted in any case.
+#![tactic(auto)]
+
 ghost use Rattle.std.specs.Prelude.{◌≡◌, true, ◌≤◌, length};
 ghost use Rattle.wire.specs.Table.{kind_of};
 ghost use Rattle.desk.specs.Csv.{line_end, style_of};
@@ -9,7 +11,7 @@ ghost use Rattle.put_row.specs.Rows.{separator, one_field, fields_from, LaysRow}
 use wire::{Item, Layout, Refusal};
 
 // So many bytes are laid, of what was read up to a place of the message; or the reader's own refusal.
-#[derive(Drop)]
+#[derive(Clone, Copy)]
 pub enum Row {
     Laid { place: usize, len: usize },
     Refused { why: Refusal, place: usize },

@@ -1,4 +1,6 @@
 // One item of a message: its own bytes, and its entry, which is stored where the store has words for it.
+#![tactic(auto)]
+
 ghost use Rattle.std.specs.Prelude.{◌≡◌, not, ◌+◌, ◌^◌, ◌<◌, length};
 ghost use Rattle.wire.specs.Tests.{both};
 ghost use Rattle.wire.specs.Table.{kind_of, node_at, record_of};
@@ -12,7 +14,7 @@ use table::Stretch;
 use wire::{Item, Layout, Own, ReadAnswer, Refusal};
 
 // What an item leaves to do: the stretch that follows it, behind the bytes that it took; or why it is refused.
-#[derive(Drop)]
+#[derive(Clone, Copy)]
 pub enum Entered {
     On { to: Stretch, used: usize },
     Refused { why: Refusal },
@@ -101,7 +103,7 @@ fn judge(strict: bool, got: Item) -> Item
 // ---- a leaf
 
 // The own bytes of an integer that isn't of fixed size, or that the kind is another.
-#[derive(Drop)]
+#[derive(Clone, Copy)]
 pub enum Int {
     Is { item: Item },
     Other,

@@ -1,4 +1,6 @@
 // How a value is spelled for a reader: a byte in hex, a byte of a text between quotes, a signed number by its sign and size.
+#![tactic(auto)]
+
 ghost use Rattle.std.specs.Prelude.{◌≡◌, [], ◌∷◌, ◌<◌, length, leb};
 ghost use Rattle.desk.specs.Csv.{digit_of, hex_of};
 ghost use Rattle.readable.specs.Spelling.{escape, padded, size_of, half};
@@ -28,7 +30,7 @@ pub fn hex(b: u8) -> [u8; 2]
 }
 
 // Up to four bytes: the first `len`, and zeros behind.
-#[derive(Drop)]
+#[derive(Clone, Copy)]
 pub struct Spelled {
     pub bytes: [u8; 4],
     pub len: usize,

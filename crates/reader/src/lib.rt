@@ -1,4 +1,6 @@
 // Reading a message by a table.
+#![tactic(auto)]
+
 ghost use Rattle.std.specs.Prelude.{false, ◌≡◌, ◌+◌, ◌-◌, ◌^◌, ◌<◌, ◌≤◌, length};
 ghost use Rattle.wire.specs.Table.{check as check_of};
 ghost use Rattle.wire.specs.Reading.{head, head_by, reading, fit};
@@ -16,7 +18,7 @@ use wire::{Checked, Layout, ReadAnswer, Refusal};
 // ---- rounds
 
 // A round's front: the entries that are made then, or no room for its entry.
-#[derive(Drop)]
+#[derive(Clone, Copy)]
 pub enum Begun {
     At { made: usize },
     Full,

@@ -31,7 +31,7 @@ const LIST: usize = 1024;
 // How many bytes are lent behind the work area.
 const BEHIND: usize = 4096;
 
-#[derive(Drop)]
+#[derive(Clone, Copy)]
 pub enum Kind {
     Read,
     ReadStrict,
@@ -49,7 +49,7 @@ pub enum Kind {
 }
 
 // The numbers that an answer of any kind begins with: document 01's number, and two more.
-#[derive(Drop)]
+#[derive(Clone, Copy)]
 pub struct Told {
     pub number: u64,
     pub second: u64,

@@ -1,5 +1,7 @@
 // Replays recorded answers of the oracle: asks the same again, compares the whole of each answer,
 // and writes a line for each kind of request. HOW.md says how the lists were made.
+#![tactic(auto)]
+
 mod answers;
 mod nights;
 mod rows;
@@ -12,7 +14,7 @@ use recorded::{field, memory};
 use say::{say, say_with};
 
 // How many records were replayed, and how many of them agree.
-#[derive(Drop)]
+#[derive(Clone, Copy)]
 struct Tally {
     records: u64,
     agree: u64,

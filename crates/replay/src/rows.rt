@@ -36,9 +36,9 @@ fn row_told(answer: CsvAnswer) -> Told
 
 fn answered(import: bool, table: &[u8], input: &[u8], out: &mut [u8]) -> CsvAnswer {
     if import {
-        return csv::import(table, input, out);
+        return csv_rows::import(table, input, out);
     }
-    csv::export(table, input, out)
+    csv_rows::export(table, input, out)
 }
 
 // Whether an import, or an export, into an output gives what the record has; `then` is another output like it.

@@ -1,5 +1,7 @@
 // Writes a value of every kind, reads it back with bytes behind it, and writes what was read again; and writes lists that
 // are refused. crates/recorded/make has them.
+#![tactic(auto)]
+
 use recorded::field::part;
 use recorded::memory::put_words;
 use say::{say, say_bytes, say_entries, say_why, say_with};

@@ -1,5 +1,7 @@
 // The rows of a batch in memory, sixteen bytes each: one read, one put, and which of two comes first. What a row is stands in
 // desk's specs/Rows.antt.
+#![tactic(auto)]
+
 ghost use Rattle.std.specs.Prelude.{◌≡◌, ◌+◌, ◌*◌, ◌≤◌, ◌<◌, ltb, length};
 ghost use Rattle.std.proofs.lemmas.List.Edits.{sets};
 ghost use Rattle.wire.specs.Numbers.{little_bytes};

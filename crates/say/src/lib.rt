@@ -1,4 +1,6 @@
 // Words, numbers and bytes on standard output, for the programs.
+#![tactic(auto)]
+
 ghost use Rattle.std.specs.Prelude.{◌≡◌, ◌≤◌, length, take};
 
 use libc::STDOUT_FILENO;

@@ -1,4 +1,6 @@
 // A search by halves in the rows of a batch: where they turn from not after a key to after it.
+#![tactic(auto)]
+
 ghost use Rattle.std.specs.Prelude.{◌≡◌};
 ghost use Rattle.batches.specs.Search.{key_not_after, Turns};
 ghost use Rattle.row.specs.Ranks.{rows_in};

@@ -5,7 +5,7 @@ use desk::{BatchChecked, BatchFound, BatchWritten, Fault, Key};
 use say::{front, say, say_bytes, say_with};
 
 // A command's second word.
-#[derive(Drop)]
+#[derive(Clone, Copy)]
 enum Asked {
     Write,
     Check,

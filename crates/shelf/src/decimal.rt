@@ -1,7 +1,7 @@
 // Numbers in decimal, as a command's words spell them.
 
 // What a word spells: a number, if it is digits alone. One that leaves 64 bits doesn't fit, and stays as large as it got.
-#[derive(Drop)]
+#[derive(Clone, Copy)]
 pub struct Number {
     pub good: bool,
     pub fits: bool,

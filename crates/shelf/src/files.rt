@@ -31,7 +31,7 @@ pub fn largest_room() -> [u8; LARGEST] {
 }
 
 // Whether a file is there whole, and how many bytes it has.
-#[derive(Drop)]
+#[derive(Clone, Copy)]
 pub struct Loaded {
     pub whole: bool,
     pub len: usize,

@@ -7,7 +7,7 @@ use say::say;
 const DEEPEST: usize = 256;
 
 // The path that a command's words spell, so many positions; or they spell none.
-#[derive(Drop)]
+#[derive(Clone, Copy)]
 enum Spelled {
     Path { depth: usize },
     Nothing,

@@ -45,7 +45,7 @@ fn say_dropped(waiting: bool, chunk: &[u8], earlier: usize)
 }
 
 // A stream as far as it was fed: the state, the place behind the fed bytes, and the place behind the last that were over-full.
-#[derive(Drop)]
+#[derive(Clone, Copy)]
 struct Stream {
     state: Accumulator,
     place: usize,

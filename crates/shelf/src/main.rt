@@ -1,4 +1,6 @@
 // What a planner runs: shelf table, read, bytes, read-strict, find, compare, changes, append, frames, frame, export, import, write and batch, each over files. Without such words it says how to use it.
+#![tactic(auto)]
+
 mod batching;
 mod comparing;
 mod decimal;
@@ -10,7 +12,7 @@ mod shown;
 mod writing;
 
 // A command's first word.
-#[derive(Drop)]
+#[derive(Clone, Copy)]
 enum Verb {
     Table,
     Read,

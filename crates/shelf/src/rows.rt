@@ -21,7 +21,7 @@ fn say_refused(got: CsvAnswer, what: &[u8], room: usize) {
 // The row of a message. No row begins as the words of a refusal do.
 pub fn export(table: &[u8], message: &[u8]) {
     let mut out = files::largest_room();
-    let got = csv::export(table, message, &mut out);
+    let got = csv_rows::export(table, message, &mut out);
     match got {
         CsvAnswer::Done { place } => say(front(&out, place)),
         _ => say_refused(got, b"row", files::LARGEST),
@@ -31,7 +31,7 @@ pub fn export(table: &[u8], message: &[u8]) {
 // Puts the message into a room of its own, and that into the file OUT only if all is well.
 fn save_message(table: &[u8], row: &[u8]) {
     let mut out = files::large_room();
-    let got = csv::import(table, row, &mut out);
+    let got = csv_rows::import(table, row, &mut out);
     match got {
         CsvAnswer::Done { place } => files::save(4, front(&out, place)),
         _ => say_refused(got, b"message", files::LARGE),

@@ -1,4 +1,6 @@
 // The single bytes of a text, which are nearly all: passed over eight at a time where there are so many.
+#![tactic(auto)]
+
 ghost use Rattle.std.specs.Prelude.{◌≡◌, ◌+◌, ◌≤◌, eqb, length, take, drop};
 ghost use Rattle.std.specs.Int.Bits.{bit_and};
 ghost use Rattle.wire.specs.Numbers.{little};

@@ -1,5 +1,7 @@
 // The whole check of a batch: the starts of its messages are marked, a window of them at a time, and each row is followed to its
 // message. What a good batch is stands in desk's specs/Batch.antt.
+#![tactic(auto)]
+
 ghost use Rattle.std.specs.Prelude.{◌≡◌, true, ◌<◌, length};
 ghost use Rattle.batches.specs.Sorted.{is_rising};
 ghost use Rattle.batches.specs.Starts.{Starts};
@@ -17,7 +19,7 @@ const SMALL: usize = 4096;
 const LARGE: usize = 262144;
 
 // Up to where starts were marked, and how many messages stand in front of that; or a message that can't be read.
-#[derive(Drop)]
+#[derive(Clone, Copy)]
 pub enum Marked {
     Upto { at: usize, count: usize },
     Stopped,

@@ -1,5 +1,7 @@
 // Feeds standard input to the accumulator in odd chunks and writes what each feed answers: its
 // number and name, how long the rest is, the state's idx and whether it waits, and a frame's message in hex.
+#![tactic(auto)]
+
 ghost use Rattle.std.specs.Prelude.{◌≤◌, ◌<◌};
 ghost use Rattle.wire.specs.Frames.{room};
 

@@ -1,4 +1,6 @@
 // The schema table: its check, and how code goes through one that is good.
+#![tactic(auto)]
+
 ghost use Rattle.std.specs.Prelude.{◌≡◌, true, max, ◌+◌, ◌*◌, ◌^◌, ◌<◌, ◌≤◌, length, eqb, ltb};
 ghost use Rattle.wire.specs.Tests.{pick, both};
 ghost use Rattle.wire.specs.Walk.{following, is_known};
@@ -12,10 +14,10 @@ ghost use Rattle.table.specs.Parts.{Inside, Small, fitting, listed, chain_at, ba
 use wire::{Checked, Ending, Layout, Refusal};
 
 // Each form owns its trailer's bytes and its mark, and the most nodes and bytes of child list.
-#[derive(Drop)]
+#[derive(Clone, Copy)]
 struct First;
 
-#[derive(Drop)]
+#[derive(Clone, Copy)]
 struct Second;
 
 impl First {
@@ -47,7 +49,7 @@ const LONGEST: usize = 256;
 const SHORT: usize = 8;
 
 // What follows an item: the `width` numbers that stand at `from` in the table, `rounds` times over.
-#[derive(Drop)]
+#[derive(Clone, Copy)]
 pub struct Stretch {
     pub rounds: u64,
     pub from: usize,
@@ -55,7 +57,7 @@ pub struct Stretch {
 }
 
 // A stretch as its rounds go, and whether the entry of a struct heads each of them.
-#[derive(Drop)]
+#[derive(Clone, Copy)]
 pub struct Way {
     pub headed: bool,
     pub from: usize,

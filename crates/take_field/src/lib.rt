@@ -1,5 +1,7 @@
 // One field of a CSV row, by its kind: its value as a message has it, laid behind the first `used` bytes of a lent output where it has
 // room there, and the place behind the field; or the first byte with which no field goes on.
+#![tactic(auto)]
+
 ghost use Rattle.std.specs.Prelude.{◌≡◌, true, ◌≤◌, length};
 ghost use Rattle.std.proofs.Math.Option.{some};
 ghost use Rattle.wire.specs.Table.{kind_of};
@@ -11,7 +13,7 @@ ghost use Rattle.take_field.specs.Taking.{TakesKind, quoted_kind};
 use take_number::Number;
 
 // The place behind a field, and how many bytes the output has; or where the row stops.
-#[derive(Drop)]
+#[derive(Clone, Copy)]
 pub enum Field {
     Took { at: usize, len: usize },
     Stops { at: usize },

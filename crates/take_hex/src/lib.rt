@@ -1,5 +1,7 @@
 // Bytes of a CSV row in hexadecimal, from their quote on: how many they are and the place behind their closing quote, or the first byte
 // with which none go on.
+#![tactic(auto)]
+
 ghost use Rattle.std.specs.Prelude.{◌≡◌, false, ◌≤◌, length};
 ghost use Rattle.take_hex.specs.Pairs.{is_hex, hex_at, before, even, Answers};
 

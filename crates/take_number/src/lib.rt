@@ -1,4 +1,6 @@
 // A number of a CSV row, from a place of the row on: its word and the place behind it, or the first byte with which no number goes on.
+#![tactic(auto)]
+
 ghost use Rattle.std.specs.Prelude.{◌≡◌, ◌+◌, ◌*◌, ◌<◌, ◌≤◌, length, get_or, ltb, leb, eqb};
 ghost use Rattle.wire.specs.Tests.{both};
 ghost use Rattle.desk.specs.Csv.{minus};
@@ -7,14 +9,14 @@ ghost use Rattle.take_number.specs.Scans.{DigitAt, Ends, further, TakesNumber, T
 const LARGEST: u64 = 0xffff_ffff_ffff_ffff;
 
 // A number's word and the place behind it, or where the row stops being one.
-#[derive(Drop)]
+#[derive(Clone, Copy)]
 pub enum Number {
     Is { word: u64, at: usize },
     Stops { at: usize },
 }
 
 // A number's size and the place behind its digits.
-#[derive(Drop)]
+#[derive(Clone, Copy)]
 pub struct Digits {
     pub size: u64,
     pub at: usize,

@@ -1,5 +1,7 @@
 // The message of a CSV row, field by field: laid in a lent output where all of it has room, and counted in any case; or the first byte
 // with which no row goes on.
+#![tactic(auto)]
+
 ghost use Rattle.std.specs.Prelude.{◌≡◌, true, ◌≤◌, length};
 ghost use Rattle.desk.specs.Csv.{columns};
 ghost use Rattle.columns.specs.Columns.{field_shapes, Rowed};
@@ -9,7 +11,7 @@ use take_field::Field;
 use wire::Layout;
 
 // So many bytes are laid; or where the row stops.
-#[derive(Drop)]
+#[derive(Clone, Copy)]
 pub enum Message {
     Laid { len: usize },
     Stops { at: usize },

@@ -1,5 +1,7 @@
 // A text or a char of a CSV row, from its quote on: how many bytes it has and the place behind its closing quote, or the first byte
 // with which none goes on.
+#![tactic(auto)]
+
 ghost use Rattle.std.specs.Prelude.{◌≡◌, true, ◌<◌, ◌≤◌, length};
 ghost use Rattle.wire.specs.Tests.{both};
 ghost use Rattle.wire.specs.Text.{width_of, low_of, high_of};
@@ -8,7 +10,7 @@ ghost use Rattle.take_text.specs.Marks.{before, within, behind, may_go_on, is_wh
 const QUOTE: u8 = b'"';
 
 // Whether what stands there is whole, how many bytes it then has, and the place behind what was gone through.
-#[derive(Drop)]
+#[derive(Clone, Copy)]
 pub struct Quoted {
     pub whole: bool,
     pub len: usize,
@@ -16,7 +18,7 @@ pub struct Quoted {
 }
 
 // On to a place, with so many bytes of a char open, the next from `low` to `high`; or the answer.
-#[derive(Drop)]
+#[derive(Clone, Copy)]
 pub enum Turn {
     On {
         at: usize,

@@ -1,4 +1,6 @@
 // How each answer is told in C: its number is returned, and its place and counts are left in the numbers lent.
+#![tactic(auto)]
+
 ghost use Rattle.std.specs.Prelude.{◌≡◌};
 ghost use Rattle.wire.specs.Answers.{check_says, write_says};
 ghost use Rattle.desk.specs.Batch.{fault_says, written_says, checked_says};

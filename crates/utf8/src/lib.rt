@@ -1,4 +1,6 @@
 // UTF-8: whether bytes are a text, a text's first char, and a char's bytes.
+#![tactic(auto)]
+
 ghost use Rattle.std.specs.Prelude.{◌≡◌, true, ◌+◌, ◌≤◌, leb, length, get_or, drop};
 ghost use Rattle.wire.specs.Tests.{both};
 ghost use Rattle.wire.specs.Text.{width_of, utf8, first_char, is_char};
@@ -272,7 +274,7 @@ pub fn is_char(c: u64) -> bool
 }
 
 // The bytes of a code point, with zeros behind them; none where it is no char.
-#[derive(Drop)]
+#[derive(Clone, Copy)]
 pub struct CharBytes {
     pub bytes: [u8; 4],
     pub len: usize,

@@ -1,4 +1,6 @@
 // Varints of three widths: low seven bits first, high bit set if more follow.
+#![tactic(auto)]
+
 ghost use Rattle.std.specs.Prelude.{◌≡◌, ◌+◌, length, set};
 ghost use Rattle.wire.specs.Shape.{w16, w32};
 ghost use Rattle.wire.specs.Numbers.{varint, shortest};
@@ -8,13 +10,13 @@ ghost use Rattle.varint.specs.Put.{Put};
 use wire::{Item, Own, Refusal};
 
 // Each width owns two constants: the most bytes, and the largest byte that may stand last there.
-#[derive(Drop)]
+#[derive(Clone, Copy)]
 pub struct U16;
 
-#[derive(Drop)]
+#[derive(Clone, Copy)]
 pub struct U32;
 
-#[derive(Drop)]
+#[derive(Clone, Copy)]
 pub struct U64;
 
 impl U16 {

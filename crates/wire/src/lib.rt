@@ -1,7 +1,8 @@
 // The format's own words, which every crate above shares. What they mean stands in specs/.
+#![tactic(auto)]
 
 // Why a call refuses. specs/Answers.antt gives each its number.
-#[derive(Drop)]
+#[derive(Clone, Copy)]
 pub enum Refusal {
     Trailer,
     Record,
@@ -19,7 +20,7 @@ pub enum Refusal {
 }
 
 // A table's trailer, of either form: C, D, how many nodes there are, the root and the mark.
-#[derive(Drop)]
+#[derive(Clone, Copy)]
 pub struct Ending {
     pub c: usize,
     pub d: usize,
@@ -29,7 +30,7 @@ pub struct Ending {
 }
 
 // Where a table's parts stand: its node records, its child list of so many places, and its root.
-#[derive(Drop)]
+#[derive(Clone, Copy)]
 pub struct Layout {
     pub records: usize,
     pub children: usize,
@@ -39,7 +40,7 @@ pub struct Layout {
 }
 
 // What a table's check answers: where its parts stand, or why it is refused and at which node.
-#[derive(Drop)]
+#[derive(Clone, Copy)]
 pub enum Checked {
     Good { layout: Layout },
     Bad { why: Refusal, place: usize },
@@ -47,7 +48,7 @@ pub enum Checked {
 
 // What was read of an item's own bytes: whether that was the shortest form, its two words, and how many bytes it took. The
 // mark stands first: the compiler keeps an item in registers only so.
-#[derive(Drop)]
+#[derive(Clone, Copy)]
 pub struct Own {
     pub shortest: bool,
     pub first: u64,
@@ -56,14 +57,14 @@ pub struct Own {
 }
 
 // An item: what was read of its own bytes, or why it is refused.
-#[derive(Drop)]
+#[derive(Clone, Copy)]
 pub enum Item {
     Took { own: Own },
     Refused { why: Refusal },
 }
 
 // How a reading ends: the bytes read, or a refusal and its place; and the entries made.
-#[derive(Drop)]
+#[derive(Clone, Copy)]
 pub enum ReadAnswer {
     Done {
         place: usize,
@@ -77,7 +78,7 @@ pub enum ReadAnswer {
 }
 
 // How a writing ends: the bytes written, or a refusal and its place.
-#[derive(Drop)]
+#[derive(Clone, Copy)]
 pub enum WriteAnswer {
     Done { place: usize },
     Refused { why: Refusal, place: usize },
@@ -85,7 +86,7 @@ pub enum WriteAnswer {
 
 // How the taking of one item ends: its entry, which is two words and the place where it stands, and the place behind it;
 // or a refusal and its place.
-#[derive(Drop)]
+#[derive(Clone, Copy)]
 pub enum TakeAnswer {
     Done {
         first: u64,
@@ -100,14 +101,14 @@ pub enum TakeAnswer {
 }
 
 // One of the append question's two tables.
-#[derive(Drop)]
+#[derive(Clone, Copy)]
 pub enum Side {
     Old,
     New,
 }
 
 // What the append question answers: yes or no; or which table is refused, why and at which node; or that its work area is too short.
-#[derive(Drop)]
+#[derive(Clone, Copy)]
 pub enum AskAnswer {
     Says {
         yes: bool,
@@ -121,7 +122,7 @@ pub enum AskAnswer {
 }
 
 // What a feed of the accumulator answers.
-#[derive(Drop)]
+#[derive(Clone, Copy)]
 pub enum FeedAnswer {
     Consumed,
     OverFull,

@@ -1,4 +1,6 @@
 // An item's own bytes: whether some value has its entry, and the bytes of one that some value has, put behind others in a lent output.
+#![tactic(auto)]
+
 ghost use Rattle.std.specs.Prelude.{◌≡◌, true, false, [], ◌+◌, ◌≤◌, length, ltb, leb};
 ghost use Rattle.wire.specs.Tests.{both};
 ghost use Rattle.wire.specs.Shape.{bits, size, w16, w32, w64, unsigned};
@@ -341,7 +343,7 @@ pub fn put_leaf(
 // ---- a text or bytes, judged and put at once
 
 // So many bytes there are now, or that no value has the entry.
-#[derive(Drop)]
+#[derive(Clone, Copy)]
 pub enum Pooled {
     Put { used: usize },
     Misfit,

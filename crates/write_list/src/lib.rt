@@ -1,4 +1,6 @@
 // A value list gone through by a table: its entries are judged, and their bytes put behind one another.
+#![tactic(auto)]
+
 ghost use Rattle.std.specs.Prelude.{◌≡◌, ◌/◌, ◌<◌, ◌≤◌};
 ghost use Rattle.wire.specs.declared.Checked.TheVariants.{Good};
 ghost use Rattle.wire.specs.Table.{kind_of, node_at, record_of, shape_of};
@@ -16,21 +18,21 @@ use wire::Layout;
 use write_item::Pooled;
 
 // How far a list is written: the next entry and how many bytes there are now; or the entry that does not fit.
-#[derive(Drop)]
+#[derive(Clone, Copy)]
 pub enum Put {
     Done { at: usize, used: usize },
     Misfit { at: usize },
 }
 
 // What an entry leaves to do: the stretch that follows it, and how many bytes there are now; or that no value has it.
-#[derive(Drop)]
+#[derive(Clone, Copy)]
 enum Entered {
     On { to: Stretch, used: usize },
     Misfit,
 }
 
 // How far a list was put: the next entry, how many bytes there are now, and where the numbers that are left stand, and how many.
-#[derive(Drop)]
+#[derive(Clone, Copy)]
 pub struct Ahead {
     pub at: usize,
     pub used: usize,
@@ -39,7 +41,7 @@ pub struct Ahead {
 }
 
 // Where the nodes of a round begin; or that no value has the entry that heads it.
-#[derive(Drop)]
+#[derive(Clone, Copy)]
 enum Begun {
     At { at: usize },
     Misfit,

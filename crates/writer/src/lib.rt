@@ -1,5 +1,7 @@
 // Writing a value list by a table: one pass judges the list, measures its form and keeps it in a room, from which it is
 // copied; a second one writes a form that is longer than its room. A text or bytes alone is measured and put without one.
+#![tactic(auto)]
+
 ghost use Rattle.std.specs.Prelude.{◌≡◌, ◌≤◌, length};
 ghost use Rattle.wire.specs.declared.Checked.TheVariants.{Good};
 ghost use Rattle.wire.specs.Table.{kind_of, shape_of};

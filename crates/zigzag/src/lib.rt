@@ -1,5 +1,7 @@
 // Signed numbers as words, x as x and 2^64 + x below zero: their zigzag form, which is the same at every width, and
 // the words of 8, 16, 32 and 64 bits.
+#![tactic(auto)]
+
 ghost use Rattle.std.specs.Prelude.{◌≡◌, ◌-◌, ◌^◌};
 ghost use Rattle.wire.specs.Numbers as numbers;
 ghost use Rattle.zigzag.specs.Widths.{width_of, extended};

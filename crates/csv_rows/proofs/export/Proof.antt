@@ -1,11 +1,11 @@
--- `csv::export` meets its contract, by the table's check and its fields.
+-- `csv_rows::export` meets its contract, by the table's check and its fields.
 -- Assumes nothing.
 use mathlib.Core.Path.{sym, ◌∙◌}
 use borrow.Author.Rules.{rules}
 use Rattle.laws.proofs.Tables.{good-table}
-use Rattle.csv.proofs.Answers.{no_fields_lem, some-fields, export-bad, export-unfit, export_row}
-use Rattle.csv.proofs.export.Tie as tie
-use Rattle.csv.proofs.export.Statement.{statement}
+use Rattle.csv_rows.proofs.Answers.{no_fields_lem, some-fields, export-bad, export-unfit, export_row}
+use Rattle.csv_rows.proofs.export.Tie as tie
+use Rattle.csv_rows.proofs.export.Statement.{statement}
 
 check-requires : tie.Need-check-requires
 check-requires c κs = search rules

@@ -27,7 +27,7 @@ use Rattle.export_row.proofs.Exports.{rows-export}
 use Rattle.take_row.specs.Messages.{taken_by}
 use Rattle.import_row.specs.Outputs.{taken_output}
 use Rattle.import_row.proofs.Imports.{rows-import}
-use Rattle.csv.specs.Promise.{GivesImport, OneExport, OneImport}
+use Rattle.csv_rows.specs.Promise.{GivesImport, OneExport, OneImport}
 
 -- ---- which tables have rows
 

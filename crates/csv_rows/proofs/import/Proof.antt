@@ -1,11 +1,11 @@
--- `csv::import` meets its contract, by the table's check and its fields.
+-- `csv_rows::import` meets its contract, by the table's check and its fields.
 -- Assumes nothing.
 use mathlib.Core.Path.{sym, ◌∙◌}
 use borrow.Author.Rules.{rules}
 use Rattle.laws.proofs.Tables.{good-table}
-use Rattle.csv.proofs.Answers.{no_fields_lem, some-fields, import-bad, import-unfit, import-row}
-use Rattle.csv.proofs.import.Tie as tie
-use Rattle.csv.proofs.import.Statement.{statement}
+use Rattle.csv_rows.proofs.Answers.{no_fields_lem, some-fields, import-bad, import-unfit, import-row}
+use Rattle.csv_rows.proofs.import.Tie as tie
+use Rattle.csv_rows.proofs.import.Statement.{statement}
 
 check-requires : tie.Need-check-requires
 check-requires c κs = search rules

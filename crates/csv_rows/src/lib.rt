@@ -1,9 +1,11 @@
 // To the spreadsheet and back: a message as a CSV row, and a row as a message. Which tables have rows, what the row of a message is and
 // what its import gives stands in desk's specs/Csv.antt.
+#![tactic(auto)]
+
 ghost use Rattle.std.specs.Prelude.{length};
 ghost use Rattle.desk.specs.Csv.{csv_export};
 ghost use Rattle.export_row.specs.Outputs.{Gives};
-ghost use Rattle.csv.specs.Promise.{GivesImport};
+ghost use Rattle.csv_rows.specs.Promise.{GivesImport};
 
 use columns::Found;
 use desk::CsvAnswer;

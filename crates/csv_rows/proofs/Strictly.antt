@@ -25,7 +25,7 @@ use Rattle.promises.proofs.RunsAgain.{Rewritten, GoodRun, rewrites}
 use Rattle.desk.specs.Csv.{bytes, within, columns_of, message_of, csv_export, export_by, Imports, fits, row_of}
 use Rattle.spellings.proofs.Trips.{Exported, was-exported}
 use Rattle.spellings.proofs.Writes.{writes-the-same}
-use Rattle.csv.specs.Promise.{StrictSameBytes}
+use Rattle.csv_rows.specs.Promise.{StrictSameBytes}
 
 abbrev fields_of : Valued → List Value
 fields_of (whole []) = []

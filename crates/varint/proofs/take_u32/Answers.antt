@@ -1,0 +1,11 @@
+-- `varint::take_u32` meets its contract: the constants are the width's.
+-- Assumes nothing.
+use mathlib.Core.Path.{◌∙◌}
+use Rattle.wire.specs.Shape.{w32}
+use Rattle.wire.specs.Numbers.{most, last}
+use Rattle.varint.proofs.Reading.{at_width}
+use Rattle.varint.proofs.take_u32.Goals as goal
+
+pub returns : goal.returns
+unfolding most last
+returns c = c.take.ensures ∙ at_width w32 _

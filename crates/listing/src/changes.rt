@@ -1,33 +1,35 @@
 // What differs between two messages: as pairs of places, and in words.
 use crate::tree::say_bad;
 use say::{say, say_why, say_with};
+use std::io;
 use wire::Refusal;
 
 // Why a comparison is refused: the table isn't good, or else the message of that name isn't.
-pub fn say_refused(name: &[u8], why: Refusal, place: usize) {
+pub fn say_refused(rt: &impl Print, name: &[u8], why: Refusal, place: usize) -> io::Result<()> {
     match why {
-        Refusal::Trailer | Refusal::Record => say_bad(why, place),
+        Refusal::Trailer | Refusal::Record => say_bad(rt, why, place),
         _ => {
-            say(name);
-            say(b": refused: ");
-            say_why(why, b", at byte #\n", place);
+            say(rt, name)?;
+            say(rt, b": refused: ")?;
+            say_why(rt, why, b", at byte #\n", place)
         }
     }
 }
 
 // So many pairs of places, each on a line.
-pub fn say_pairs(list: &[u64], count: usize) {
+pub fn say_pairs(rt: &impl Print, list: &[u64], count: usize) -> io::Result<()> {
     let mut rest = list;
     let mut left = count;
     while 0 < left {
         if rest.len() < 2 {
-            return;
+            return Ok(());
         }
-        say_with(b"# ", rest[0]);
-        say_with(b"#\n", rest[1]);
+        say_with(rt, b"# ", rest[0])?;
+        say_with(rt, b"#\n", rest[1])?;
         rest = &rest[2..];
         left -= 1;
     }
+    Ok(())
 }
 
 // The last of the made entries, from one on, whose place isn't behind the given one. An item that differs has bytes, so what

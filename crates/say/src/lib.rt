@@ -6,46 +6,46 @@ ghost use Rattle.std.specs.Prelude.{◌≡◌, ◌≤◌, length, take};
 use std::io;
 use wire::Refusal;
 
-pub fn say(out: &impl Print, text: &[u8]) -> io::Result<()> {
-    out.write_all(text)
+pub fn say(rt: &impl Print, text: &[u8]) -> io::Result<()> {
+    rt.write_all(text)
 }
 
-pub fn say_number(out: &impl Print, n: u64) -> io::Result<()> {
-    out.print(n)
+pub fn say_number(rt: &impl Print, n: u64) -> io::Result<()> {
+    rt.print(n)
 }
 
-fn say_byte(out: &impl Print, b: u8) -> io::Result<()> {
-    say(out, &readable::hex(b))
+fn say_byte(rt: &impl Print, b: u8) -> io::Result<()> {
+    say(rt, &readable::hex(b))
 }
 
 // Bytes in hex, with a space before each.
-pub fn say_bytes(out: &impl Print, bytes: &[u8]) -> io::Result<()> {
+pub fn say_bytes(rt: &impl Print, bytes: &[u8]) -> io::Result<()> {
     if bytes.len() == 0 {
-        say(out, b" none")?;
+        say(rt, b" none")?;
     }
     for b in bytes {
-        say(out, b" ")?;
-        say_byte(out, *b)?;
+        say(rt, b" ")?;
+        say_byte(rt, *b)?;
     }
     Ok(())
 }
 
 // An entry's words.
-fn say_entry(out: &impl Print, first: u64, second: u64, place: u64) -> io::Result<()> {
-    say_with(out, b" (#", first)?;
-    say_with(out, b", #", second)?;
-    say_with(out, b", #)", place)
+fn say_entry(rt: &impl Print, first: u64, second: u64, place: u64) -> io::Result<()> {
+    say_with(rt, b" (#", first)?;
+    say_with(rt, b", #", second)?;
+    say_with(rt, b", #)", place)
 }
 
 // The first so many entries of a store, or all if there are fewer.
 #[tactic(auto, unfolding(wire::specs::Answers::room_of))]
-pub fn say_entries(out: &impl Print, store: &[u64], count: usize) -> io::Result<()> {
+pub fn say_entries(rt: &impl Print, store: &[u64], count: usize) -> io::Result<()> {
     for i in 0..count {
         if entry::room(store.len()) <= i {
             return Ok(());
         }
         say_entry(
-            out,
+            rt,
             entry::first(store, i),
             entry::second(store, i),
             entry::place(store, i),
@@ -65,9 +65,9 @@ pub fn front<'a>(bytes: &'a [u8], n: usize) -> &'a [u8]
 }
 
 // Two spaces for each level.
-pub fn indent(out: &impl Print, depth: usize) -> io::Result<()> {
+pub fn indent(rt: &impl Print, depth: usize) -> io::Result<()> {
     for _ in 0..depth {
-        say(out, b"  ")?;
+        say(rt, b"  ")?;
     }
     Ok(())
 }
@@ -102,39 +102,39 @@ pub fn part<'a>(list: &'a [u8], k: usize) -> &'a [u8] {
     front(rest, before(rest, b';'))
 }
 
-pub fn say_part(out: &impl Print, list: &[u8], k: usize) -> io::Result<()> {
-    say(out, part(list, k))
+pub fn say_part(rt: &impl Print, list: &[u8], k: usize) -> io::Result<()> {
+    say(rt, part(list, k))
 }
 
 // A text behind its number: an s stands for its `$`, unless the number is one.
-fn say_behind(out: &impl Print, text: &[u8], n: u64) -> io::Result<()> {
+fn say_behind(rt: &impl Print, text: &[u8], n: u64) -> io::Result<()> {
     let end = before(text, b'$');
-    say(out, front(text, end))?;
+    say(rt, front(text, end))?;
     if end < text.len() && n != 1 {
-        say(out, b"s")?;
+        say(rt, b"s")?;
     }
-    say(out, behind(text, b'$'))
+    say(rt, behind(text, b'$'))
 }
 
 // A text with a number in place of its `#`, and behind that an s in place of its `$`, unless the number is one.
-pub fn say_with(out: &impl Print, text: &[u8], n: u64) -> io::Result<()> {
+pub fn say_with(rt: &impl Print, text: &[u8], n: u64) -> io::Result<()> {
     let end = before(text, b'#');
-    say(out, front(text, end))?;
+    say(rt, front(text, end))?;
     if end < text.len() {
-        say_number(out, n)?;
-        say_behind(out, behind(text, b'#'), n)?;
+        say_number(rt, n)?;
+        say_behind(rt, behind(text, b'#'), n)?;
     }
     Ok(())
 }
 
 // A refusal's number and its words, and a text with its place.
-pub fn say_why(out: &impl Print, why: Refusal, text: &[u8], place: usize) -> io::Result<()> {
+pub fn say_why(rt: &impl Print, why: Refusal, text: &[u8], place: usize) -> io::Result<()> {
     let n = numbers::refusal(why);
-    say_with(out, b"#, ", n)?;
+    say_with(rt, b"#, ", n)?;
     let names =
         b";the trailer is not good;a record is not good;the message ends inside an item;bad varint;bad bool;bad char;\
         bad UTF-8;bad option;the table has no such variant;no room for this item's entry;the value list does not fit;\
         the output is full;;;;not in its shortest form";
-    say_part(out, names, n as usize)?;
-    say_with(out, text, place as u64)
+    say_part(rt, names, n as usize)?;
+    say_with(rt, text, place as u64)
 }

@@ -127,7 +127,7 @@ fn read_over(strict: bool, record: &[u8], store: &mut [u64], then: &mut [u64]) -
     if !memory::same_words(store, then) {
         return false;
     }
-    check::same(reader::rest(message, answer), field::part(record, 7))
+    reader::rest(message, answer) == field::part(record, 7)
 }
 
 fn open_told(answer: OpenAnswer) -> Told
@@ -192,7 +192,7 @@ fn open_over(
     if !memory::same_words(store, then) {
         return false;
     }
-    check::same(open::rest(message, answer), field::part(record, 7))
+    open::rest(message, answer) == field::part(record, 7)
 }
 
 // By that reader, whose list must come back zero.
@@ -260,7 +260,7 @@ fn write_over(record: &[u8], words: &mut [u64], out: &mut [u8], then: &mut [u8])
         return false;
     }
     memory::put(then, 0, field::part(record, 7));
-    check::same(out, then)
+    &*out == &*then
 }
 
 fn write_agrees(record: &[u8]) -> bool {
@@ -356,12 +356,12 @@ fn holds(record: &[u8], array: &[u8], message: &[u8]) -> bool {
     memory::put(&mut then, 0, field::part(record, 4));
     let place = field::number_at(record, 8) as usize;
     memory::put(&mut then, place, field::part(record, 9));
-    if !check::same(array, &then) {
+    if array != then.as_slice() {
         return false;
     }
     let mut decoded = [0u8; ROOM];
     memory::put(&mut decoded, 0, field::part(record, 7));
-    check::same(message, &decoded)
+    message == decoded.as_slice()
 }
 
 // Whether a step's numbers and what it hands back of the chunk are the record's.
@@ -377,7 +377,7 @@ fn step_agrees(record: &[u8], step: Step) -> bool {
     if !tells(record, told) {
         return false;
     }
-    check::same(tail::from(chunk, used), field::part(record, 6))
+    tail::from(chunk, used) == field::part(record, 6)
 }
 
 // By default, with the mark before and after it.
@@ -470,7 +470,7 @@ fn take_agrees(record: &[u8]) -> bool {
     if !is_entry(record, answer) {
         return false;
     }
-    check::same(tail::from(message, behind), field::part(record, 7))
+    tail::from(message, behind) == field::part(record, 7)
 }
 
 // ---- finding an item

@@ -74,7 +74,7 @@ fn write_over(record: &[u8], out: &mut [u8], then: &mut [u8]) -> bool {
         return false;
     }
     memory::put(then, 0, field::part(record, 9));
-    check::same(out, then)
+    &*out == &*then
 }
 
 fn write_agrees(record: &[u8]) -> bool {
@@ -166,7 +166,7 @@ fn compact_over(record: &[u8], out: &mut [u8], then: &mut [u8]) -> bool {
         return false;
     }
     memory::put(then, 0, field::part(record, 6));
-    check::same(out, then)
+    &*out == &*then
 }
 
 // Whether a compaction answers and leaves what the record has.

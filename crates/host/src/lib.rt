@@ -70,9 +70,9 @@ pub fn open<R: Files>(rt: &R, path: &[u8]) -> io::Result<R::File> {
     fs::open(rt, path_of(path)?)
 }
 
-// Opens a file to write it anew, or makes it.
-pub fn create<R: Files>(rt: &R, path: &[u8]) -> io::Result<R::File> {
-    fs::create(rt, path_of(path)?)
+// Puts bytes into a file in place of what it held, or into a new one.
+pub fn write(rt: &impl Files, path: &[u8], bytes: &[u8]) -> io::Result<()> {
+    fs::write(rt, path_of(path)?, bytes)
 }
 
 // An error's words, without the number that the system has for it.

@@ -14,7 +14,7 @@ use Rattle.wire.specs.Tests.{pick}
 use Rattle.laws.proofs.Splits.{by-test, both_yes, both_left, both_right}
 use Rattle.desk.specs.declared.Key.{Key}
 use Rattle.desk.specs.Rows.{same_key, or_else, some_if}
-use Rattle.desk.specs.Messages.{Keyed, Message, joined, rows_of, Part, last_from}
+use Rattle.desk.specs.Messages.{Keyed, Message, joined, rows_of, Part, last_from, next_of, next}
 use Rattle.desk.specs.Compact.{occurs, keep_last}
 use Rattle.batches.specs.Reads.{Reads, ended, also}
 use Rattle.desk.specs.Batch.{offsets_fit}
@@ -32,12 +32,16 @@ keep-no m ms q = rw q
 
 -- ---- they read as before
 
+keep-one : (k : Keyed) (m : Message) (ms : List Message) → next_of k (m.bytes ++ joined ms) ≡ next m (joined ms) → 0 < length m.bytes → Reads k (joined ms) ms → Reads k (joined (m ∷ ms)) (m ∷ ms)
+unfolding joined
+keep-one k m ms q h ih = also q h ih
+
 pub reads-keep : {k : Keyed} {s : List ℕ} {ms : List Message} → Reads k s ms → Reads k (joined (keep_last ms)) (keep_last ms)
 reads-keep {k} ended = unfold keep_last joined in ended
 reads-keep {k} {s} (also {m} {ms} q h r) = go (reads-keep r)
   where
     one : Reads k (joined (keep_last ms)) (keep_last ms) → Reads k (joined (m ∷ keep_last ms)) (m ∷ keep_last ms)
-    one ih = unfold joined in also (next-behind k s (joined (keep_last ms)) q) h ih
+    one ih = keep-one k m (keep_last ms) (next-behind k s (joined (keep_last ms)) q) h ih
 
     go : Reads k (joined (keep_last ms)) (keep_last ms) → Reads k (joined (keep_last (m ∷ ms))) (keep_last (m ∷ ms))
     go ih = by-test (occurs m.key ms) (λ e. rw (keep-no m ms e) ih) (λ e. rw (keep-yes m ms e) (one ih))

@@ -168,7 +168,7 @@ pub own-told : OwnTold
 unfolding tell
 own-told strict t x y es rest e = go (rw e at ((walk-law (keeps strict) (matches-refl t)).tells x))
   where
-    end : {u : Told} → Same es rest y es u (reached y) → (ts : List Tag) × (entries ts ≡ es) × (u ≡ kept ts rest)
+    end : {u : Told} {z : Spot} → Same es rest y es u (reached z) → (ts : List Tag) × (entries ts ≡ es) × (u ≡ kept ts rest)
     end (whole ts a b) = (ts, a, refl)
 
     go : Tells (tell t) (record { made = es; ends = reached y }) es (reached y) → (ts : List Tag) × (entries ts ≡ es) × (tell t (es ++ rest) ≡ kept ts rest)

@@ -60,9 +60,9 @@ module _ {s : List ℕ} {from i : ℕ} (bytes : AreBytes s) (r : Same s from i) 
 
 module _ {s : List ℕ} {from i : ℕ} (bytes : AreBytes s) (r : Same s from i) {ok : Bool} where
   -- past eight bytes
-  pub eight-on : (j : ℕ) → i + 8 ≡ j → i + 8 ≤ length s → ok ≡ eqb (bit_and (little (take 8 (drop i s))) 0x8080_8080_8080_8080) 0 → not ok ≡ false → Same s from j
+  pub eight-on : (j : ℕ) → i + 8 ≡ j → i + 8 ≤ length s → ok ≡ eqb (bit_and (little (take 8 (drop i s))) 0x8080_8080_8080_8080) 0 → ok ≡ true → Same s from j
   unfolding highs
-  eight-on j place inside e f = subst (Same s from) place (tested bytes r 8 i (omega arith) (omega arith) inside e (not-false ok f))
+  eight-on j place inside e f = subst (Same s from) place (tested bytes r 8 i (omega arith) (omega arith) inside e f)
 
   -- past the last of all, tested with some in front of them
   module _ (a : ℕ) (low : a ≤ i) where

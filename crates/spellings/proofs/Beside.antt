@@ -15,4 +15,6 @@ scans-alike A B R beside (b ∷ s) x y h = on (A.step x b) (B.step y b) (beside 
     on : (o : Option A.State) (p : Option B.State) → Next R o p → (f : A.State → Scanned A) (g : B.State → Scanned B)
         → ((z : A.State) (w : B.State) → R z w → Alike A B R (f z) (g w)) → Alike A B R (scan_on A x b s o f) (scan_on B y b s p g)
     on none none neither f g k = record { states = h; used = refl; left = refl }
+    on none (some w) x7 f g k = elim x7 [ ]
+    on (some z) none x7 f g k = elim x7 [ ]
     on (some z) (some w) (each r) f g k = let a = k z w r in record { states = a.states; used = ap (λ n. 1 + n) a.used; left = a.left }

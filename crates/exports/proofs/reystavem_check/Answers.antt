@@ -1,0 +1,6 @@
+-- `exports::reystavem_check` meets its contract: the answer is told as it came.
+-- Assumes nothing.
+use Rattle.exports.proofs.reystavem_check.Goals as goal
+
+pub returns : goal.returns
+returns c = rw c.check-got.ensures at c.checked.ensures

@@ -1,0 +1,23 @@
+-- `find::find` meets its contract: the table's refusal, no such item, or the answer along the path.
+-- Assumes nothing.
+use mathlib.Core.Path.{sym, ◌∙◌}
+use Rattle.laws.proofs.Tables.{good-table}
+use Rattle.find.proofs.Promise.{finds-bad, finds-none, finds-some}
+use Rattle.find.proofs.find.Goals as goal
+
+pub leads-requires : goal.leads-requires
+leads-requires c = good-table _ _ (sym c.check-checked.ensures ∙ c.in-Good.is)
+
+pub seek-requires : goal.seek-requires
+seek-requires c = let good = sym c.check-checked.ensures ∙ c.in-Good.is in record { good_table = good-table _ _ good; path_value = sym c.leads.ensures ∙ c.if-leads.true }
+
+pub returns-then-leads : goal.returns-then-leads
+returns-then-leads c = let good = sym c.check-checked.ensures ∙ c.in-Good.is in
+    c.seek.ensures ∙ finds-some _ _ _ good (sym c.leads.ensures ∙ c.if-leads.true)
+
+pub returns-in-Bad : goal.returns-in-Bad
+returns-in-Bad c = finds-bad _ _ _ (sym c.check-checked.ensures ∙ c.in-Bad.is)
+
+pub returns-else-leads : goal.returns-else-leads
+returns-else-leads c = let good = sym c.check-checked.ensures ∙ c.in-Good.is in
+    finds-none _ _ _ good (sym c.leads.ensures ∙ c.if-leads.false)

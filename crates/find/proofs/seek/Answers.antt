@@ -1,0 +1,22 @@
+-- `find::seek` meets its contract: the answer on the way, or that of the item at its end.
+-- Assumes nothing.
+use mathlib.Core.Path.{◌∙◌}
+use native.Mathlib.Omega.{arith}
+use Rattle.laws.proofs.Parts.{length-tail}
+use Rattle.find.proofs.Going.{end-out, end-in}
+use Rattle.find.proofs.seek.Goals as goal
+
+pub slice_bounds-take-count : goal.slice_bounds-take-count
+slice_bounds-take-count c = (end-in c.go-end.ensures c.in-In.is).within
+
+pub slice_bounds-take-start : goal.slice_bounds-take-start
+slice_bounds-take-start c = (end-in c.go-end.ensures c.in-In.is).within
+
+pub take-requires : goal.take-requires
+take-requires c = let e = end-in c.go-end.ensures c.in-In.is in record { good_table = c.requires.good_table; node_lt_nodes = e.below; node_value = e.field; part_bound = omega (arith, e.within, length-tail c.args.message.now c.in-In.place) }
+
+pub returns-in-Out : goal.returns-in-Out
+returns-in-Out c = end-out c.go-end.ensures c.in-Out.is
+
+pub returns-in-In : goal.returns-in-In
+returns-in-In c = c.take.ensures ∙ (end-in c.go-end.ensures c.in-In.is).same

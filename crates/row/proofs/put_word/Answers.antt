@@ -1,0 +1,33 @@
+-- `row::put_word` meets its contract.
+-- Assumes nothing.
+use lib.ListN.{length-set}
+use Rattle.row.proofs.Bytes.{puts8}
+use native.Mathlib.Omega.{arith}
+use Rattle.row.proofs.put_word.Goals as goal
+
+pub bounds-rows-at-2 : goal.bounds-rows-at-2
+bounds-rows-at-2 c = simp length-set (omega arith)
+
+pub bounds-rows-at-3 : goal.bounds-rows-at-3
+bounds-rows-at-3 c = simp length-set (omega arith)
+
+pub bounds-rows-at-4 : goal.bounds-rows-at-4
+bounds-rows-at-4 c = simp length-set (omega arith)
+
+pub bounds-rows-at-5 : goal.bounds-rows-at-5
+bounds-rows-at-5 c = simp length-set (omega arith)
+
+pub bounds-rows-at-6 : goal.bounds-rows-at-6
+bounds-rows-at-6 c = simp length-set (omega arith)
+
+pub bounds-rows-at-7 : goal.bounds-rows-at-7
+bounds-rows-at-7 c = simp length-set (omega arith)
+
+pub bounds-rows-at-8 : goal.bounds-rows-at-8
+bounds-rows-at-8 c = simp length-set (omega arith)
+
+pub shape_of-rows : goal.shape_of-rows
+shape_of-rows c = simp length-set
+
+pub returns : goal.returns
+returns c = puts8 _ _ _

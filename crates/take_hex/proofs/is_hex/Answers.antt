@@ -1,0 +1,12 @@
+-- `take_hex::is_hex` meets its contract: the row's end, or what stands there.
+-- Assumes nothing.
+use mathlib.Core.Path.{◌∙◌}
+use native.Mathlib.Omega.{arith}
+use Rattle.take_hex.proofs.Counting.{hex-test, hex-beyond}
+use Rattle.take_hex.proofs.is_hex.Goals as goal
+
+pub returns-then-at-row : goal.returns-then-at-row
+returns-then-at-row c = c.is_digit.ensures ∙ hex-test c.args.row.now c.args.at (omega arith)
+
+pub returns : goal.returns
+returns c = hex-beyond c.args.row.now c.args.at (omega arith)

@@ -126,8 +126,8 @@ fn show_rounds(
             return Ok(next);
         }
         next = show_round(
-            rt, table, l, node, span.from, span.to, round, way, depth, words, made, message,
-            lined, other, next,
+            rt, table, l, node, span.from, span.to, round, way, depth, words, made, message, lined,
+            other, next,
         )?;
     }
     Ok(next)
@@ -184,6 +184,7 @@ fn show_round(
 }
 
 // The entries that were made, if there are so many words: all, if no other message's are lined up with them.
+#[tactic(auto, unfolding(wire::specs::Answers::room_of))]
 fn show_entries(
     rt: &impl Print,
     table: &[u8],
@@ -246,6 +247,7 @@ fn made_by(answer: ReadAnswer, bytes: bool) -> Made {
 }
 
 // Where the own bytes of the item in front of the entry `at` end: where that one's begin, or else where the reading ended.
+#[tactic(auto, unfolding(wire::specs::Answers::room_of))]
 fn end_before(store: &[u64], answer: ReadAnswer, at: usize) -> usize {
     let made = made_by(answer, true);
     if at < made.count {

@@ -108,6 +108,7 @@ fn say_change(
 }
 
 // What is said of the entry `at`. Where another message's entries are lined up with these, only what differs is.
+#[tactic(auto, unfolding(wire::specs::Answers::room_of))]
 pub fn say_entry(
     rt: &impl Print,
     number: u8,

@@ -42,8 +42,8 @@ use Rattle.batch.specs.Compacting.{compacted_by}
 use Rattle.batch.proofs.Opening.{not-true, not-false}
 use Rattle.batch.proofs.Writing.{unwritten}
 
-pub judged-good : {b : Parts} {t : Bool} → Judges b t → not t ≡ false → Good b
-judged-good {b} j q = go (subst (Judges b) (not-false q) j)
+pub judged-good : {b : Parts} {t : Bool} → Judges b t → t ≡ true → Good b
+judged-good {b} j q = go (subst (Judges b) q j)
   where
     go : Judges b true → Good b
     go (good {ms} e) = record { them = ms; is = e }
@@ -58,8 +58,8 @@ module _ {table : List ℕ} {l : Layout} {f : Fields} (by : KeyedBy table l f) (
   is-bad : messages_of parts ≡ fault BadBatch → Writes made out (Refused BadBatch) out
   is-bad e = unwritten (unfold compacted_by after in rw e)
 
-  pub compact-bad : {t : Bool} → Judges parts t → not t ≡ true → Writes made out (Refused BadBatch) out
-  compact-bad j q = go (subst (Judges parts) (not-true q) j)
+  pub compact-bad : {t : Bool} → Judges parts t → t ≡ false → Writes made out (Refused BadBatch) out
+  compact-bad j q = go (subst (Judges parts) q j)
     where
       go : Judges parts false → Writes made out (Refused BadBatch) out
       go (bad e) = is-bad e
@@ -95,12 +95,12 @@ module _ {table : List ℕ} {l : Layout} {f : Fields} (by : KeyedBy table l f) (
     made-room : made ≡ in_room (length out) (batch_of (keys_of table l f) (keep_last ms))
     made-room = unfold compacted_by after in rw g.is
 
-    pub compact-full : {t : Bool} → t ≡ leb (len + (16 * count + 12)) (length out) → not t ≡ true → Writes made out (Refused (Wire Full 0)) out
-    compact-full e z = unwritten (made-room ∙ (unfold in_room pick in rw (size, sym e ∙ not-true z)))
+    pub compact-full : {t : Bool} → t ≡ leb (len + (16 * count + 12)) (length out) → t ≡ false → Writes made out (Refused (Wire Full 0)) out
+    compact-full e z = unwritten (made-room ∙ (unfold in_room pick in rw (size, sym e ∙ z)))
 
-    module _ {t : Bool} (e : t ≡ leb (len + (16 * count + 12)) (length out)) (z : not t ≡ false) where
+    module _ {t : Bool} (e : t ≡ leb (len + (16 * count + 12)) (length out)) (z : t ≡ true) where
       pub compact-fits : len + (16 * count + 12) ≤ length out
-      compact-fits = leb-true (len + (16 * count + 12)) (length out) (sym e ∙ not-false z)
+      compact-fits = leb-true (len + (16 * count + 12)) (length out) (sym e ∙ z)
 
       total : len + 16 * count + 12 ≡ len + (16 * count + 12)
       total = omega arith
@@ -112,7 +112,7 @@ module _ {table : List ℕ} {l : Layout} {f : Fields} (by : KeyedBy table l f) (
       compact-keeps = record { them = ms; is = g.is; size = bytes; room = compact-sizes ∙ rw (many) }
 
       pub compact-done : {a : List ℕ} → a ≡ batch_kept (keys_of table l f) (messages_of parts) → Writes made out (Done (len + 16 * count + 12)) (a ++ drop (len + 16 * count + 12) out)
-      compact-done {a} q = stored (made-room ∙ (unfold in_room pick in rw (size, sym e ∙ not-false z)))
+      compact-done {a} q = stored (made-room ∙ (unfold in_room pick in rw (size, sym e ∙ z)))
         where
           same : a ≡ batch_of (keys_of table l f) (keep_last ms)
           same = q ∙ ap (batch_kept (keys_of table l f)) g.is ∙ (unfold batch_kept in refl)

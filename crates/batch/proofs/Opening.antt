@@ -178,19 +178,19 @@ module _ {table : List ℕ} {lay : Layout} {batch : List ℕ} {f : Fields} {star
     said-by : {answer : BatchFound} → answer ≡ found_answer (found_in (parts_of table lay batch f start end) (some_if (same_key k last.key) last.offset)) → Finds table lay batch f start end k answer
     said-by q = record { turn = u; turns = t; said = q ∙ ap (λ o. found_answer (found_in (parts_of table lay batch f start end) o)) (sym before-row) }
 
-    pub found-other : {b : Bool} → b ≡ same_key k last.key → not b ≡ true → Finds table lay batch f start end k (NotFound Missing)
-    found-other e q = said-by (unfold some_if found_in found_answer in rw (sym e ∙ not-true q))
+    pub found-other : {b : Bool} → b ≡ same_key k last.key → b ≡ false → Finds table lay batch f start end k (NotFound Missing)
+    found-other e q = said-by (unfold some_if found_in found_answer in rw (sym e ∙ q))
 
-    module _ {b : Bool} (e : b ≡ same_key k last.key) (q : not b ≡ false) where
+    module _ {b : Bool} (e : b ≡ same_key k last.key) (q : b ≡ true) where
       front-size : length (take start batch) ≡ start
       front-size = length-take-le start batch (omega (arith, p.starts, p.ends))
 
       pub found-beyond : start ≤ last.offset → Finds table lay batch f start end k (NotFound BadBatch)
-      found-beyond h = said-by (unfold some_if found_in given found_answer in rw (sym e ∙ not-false q, front-size, le-ltb last.offset start h))
+      found-beyond h = said-by (unfold some_if found_in given found_answer in rw (sym e ∙ q, front-size, le-ltb last.offset start h))
 
       module _ (h : last.offset < start) {r : NextMessage} (n : r ≡ next_answer (next_of (keys_of table lay f) (take (start - last.offset) (drop last.offset batch)))) where
         by_next : {answer : BatchFound} → answer ≡ found_answer (part_by last.offset (next_of (keys_of table lay f) (drop last.offset (take start batch)))) → Finds table lay batch f start end k answer
-        by_next a = said-by (unfold some_if found_in given in rw (sym e ∙ not-false q, front-size, lt-ltb last.offset start h) a)
+        by_next a = said-by (unfold some_if found_in given in rw (sym e ∙ q, front-size, lt-ltb last.offset start h) a)
 
         its-next : r ≡ next_answer (next_of (keys_of table lay f) (drop last.offset (take start batch)))
         its-next = n ∙ ap (λ s. next_answer (next_of (keys_of table lay f) s)) (sym (drop-take last.offset start batch))

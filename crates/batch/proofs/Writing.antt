@@ -76,15 +76,15 @@ module _ {table : List ℕ} {l : Layout} {f : Fields} {store product : ℕ} (fit
     unfolding made_by
     made-sized = rw rd.is (unfold split_by after in refl)
 
-    pub write-large : {t : Bool} → t ≡ both (ltb last (2 ^ 32)) (both (ltb n (2 ^ 32)) (ltb (16 * n) (2 ^ 32))) → not t ≡ true → Writes made out (Refused BadBatch) out
-    write-large e z = unwritten (made-sized ∙ (unfold sized pick after in rw (sym (size-test e) ∙ not-true z)))
+    pub write-large : {t : Bool} → t ≡ both (ltb last (2 ^ 32)) (both (ltb n (2 ^ 32)) (ltb (16 * n) (2 ^ 32))) → t ≡ false → Writes made out (Refused BadBatch) out
+    write-large e z = unwritten (made-sized ∙ (unfold sized pick after in rw (sym (size-test e) ∙ z)))
 
-    module _ {t : Bool} (e : t ≡ both (ltb last (2 ^ 32)) (both (ltb n (2 ^ 32)) (ltb (16 * n) (2 ^ 32)))) (z : not t ≡ false) where
+    module _ {t : Bool} (e : t ≡ both (ltb last (2 ^ 32)) (both (ltb n (2 ^ 32)) (ltb (16 * n) (2 ^ 32)))) (z : t ≡ true) where
       pub write-few : 16 * n < 2 ^ 32
-      write-few = ltb-true (16 * n) (2 ^ 32) (both_right _ _ (both_right _ _ (sym e ∙ not-false z)))
+      write-few = ltb-true (16 * n) (2 ^ 32) (both_right _ _ (both_right _ _ (sym e ∙ z)))
 
       made-room : made ≡ in_room (length out) (batch_of k rd.ms)
-      made-room = made-sized ∙ (unfold sized pick after in rw (sym (size-test e) ∙ not-false z))
+      made-room = made-sized ∙ (unfold sized pick after in rw (sym (size-test e) ∙ z))
 
       reads : Reads k bytes rd.ms
       reads = (split-reads k bytes rd.ms).0 rd.is
@@ -101,7 +101,7 @@ module _ {table : List ℕ} {l : Layout} {f : Fields} {store product : ℕ} (fit
             them = rd.ms;
             is = rd.is;
             many = rd.many;
-            fits = rows_fit 0 fit.by.fits reads (rd.offsets ∙ both_left _ _ (sym e ∙ not-false z));
+            fits = rows_fit 0 fit.by.fits reads (rd.offsets ∙ both_left _ _ (sym e ∙ z));
             few = write-few;
             room = length-take-le (length bytes + (16 * n + 12)) out h;
           }
@@ -111,7 +111,7 @@ module _ {table : List ℕ} {l : Layout} {f : Fields} {store product : ℕ} (fit
         where
           go : batch_for (whole rd.ms) bytes n store product ≡ batch_of k rd.ms
           go = unfold batch_for batch_of rows_for ending trailer in
-              rw (reads-joined reads, sorted-rows (rows_of 0 rd.ms) (rows_fit 0 fit.by.fits reads (rd.offsets ∙ both_left _ _ (sym e ∙ not-false z))), rd.many, fit.is)
+              rw (reads-joined reads, sorted-rows (rows_of 0 rd.ms) (rows_fit 0 fit.by.fits reads (rd.offsets ∙ both_left _ _ (sym e ∙ z))), rd.many, fit.is)
 
       pub write_done : length bytes + (16 * n + 12) ≤ length out → {a : List ℕ} → a ≡ batch_for (split k bytes) bytes n store product
           → Writes made out (Done (length bytes + (16 * n + 12))) (a ++ drop (length bytes + (16 * n + 12)) out)

@@ -260,18 +260,18 @@ module _ {s : List ℕ} {l : Layout} {at n : ℕ} (r : Root s l at n) where
         → b ≡ eqb (node_at s (record_of l (u16_at s (node_first l l.root (node_at s (record_of l l.root)) + 2 * i)))).number number
     is_at i number e = e ∙ ap (λ at. eqb (node_at s (record_of l (u16_at s (at + 2 * i)))).number number) r.start
 
-    pub other-store : {b : Bool} → store < n → b ≡ eqb (node_at s (record_of l (u16_at s (at + 2 * store)))).number 7 → not b ≡ true → Finds s l store product Unfit
-    other-store h e q = unfit (store_other r.good store product r.number (omega (arith, r.many)) (sym (not-true q) ∙ is_at store 7 e))
+    pub other-store : {b : Bool} → store < n → b ≡ eqb (node_at s (record_of l (u16_at s (at + 2 * store)))).number 7 → b ≡ false → Finds s l store product Unfit
+    other-store h e q = unfit (store_other r.good store product r.number (omega (arith, r.many)) (sym q ∙ is_at store 7 e))
 
-    pub other-product : {b : Bool} → product < n → b ≡ eqb (node_at s (record_of l (u16_at s (at + 2 * product)))).number 8 → not b ≡ true → Finds s l store product Unfit
-    other-product h e q = unfit (product-other r.good store product r.number (omega (arith, r.many)) (sym (not-true q) ∙ is_at product 8 e))
+    pub other-product : {b : Bool} → product < n → b ≡ eqb (node_at s (record_of l (u16_at s (at + 2 * product)))).number 8 → b ≡ false → Finds s l store product Unfit
+    other-product h e q = unfit (product-other r.good store product r.number (omega (arith, r.many)) (sym q ∙ is_at product 8 e))
 
     module _ {a b : Bool} (few : AreBytes s) (hs : store < n) (hp : product < n)
-        (ea : a ≡ eqb (node_at s (record_of l (u16_at s (at + 2 * store)))).number 7) (qa : not a ≡ false) (eb : b ≡ eqb (node_at s (record_of l (u16_at s (at + 2 * product)))).number 8) (qb : not b ≡ false) where
+        (ea : a ≡ eqb (node_at s (record_of l (u16_at s (at + 2 * store)))).number 7) (qa : a ≡ true) (eb : b ≡ eqb (node_at s (record_of l (u16_at s (at + 2 * product)))).number 8) (qb : b ≡ true) where
       pub two_fields : store ≡ product → ⊥
-      two_fields = not_same r.good store product r.number (few-fields r.good few r.number) (omega (arith, r.many)) (omega (arith, r.many)) (sym (not-false qa) ∙ is_at store 7 ea) (sym (not-false qb) ∙ is_at product 8 eb)
+      two_fields = not_same r.good store product r.number (few-fields r.good few r.number) (omega (arith, r.many)) (omega (arith, r.many)) (sym qa ∙ is_at store 7 ea) (sym qb ∙ is_at product 8 eb)
 
       pub fields-there : {f : Fields} → Ordered at n store product f → Finds s l store product (At f)
       fields-there {f} o =
-          its-keys r.good store product r.number (few-fields r.good few r.number) (omega (arith, r.many)) (omega (arith, r.many)) (sym (not-false qa) ∙ is_at store 7 ea) (sym (not-false qb) ∙ is_at product 8 eb)
+          its-keys r.good store product r.number (few-fields r.good few r.number) (omega (arith, r.many)) (omega (arith, r.many)) (sym qa ∙ is_at store 7 ea) (sym qb ∙ is_at product 8 eb)
           (record { start = o.start ∙ r.start; all = o.all ∙ r.many; its-store = o.its-store; its-product = o.its-product })

@@ -37,14 +37,14 @@ module _ {k : Keyed} {s : List ℕ} {base at : ℕ} {rows : List ℕ} {i : ℕ} 
   it : r ≡ get_or (rows_in rows) i no_row
   it = l.row ∙ sym (rows_get rows i no_row h)
 
-  pub placing-wrong : not t ≡ true → AllStand k s base at (rows_in rows) false
-  placing-wrong e = go (subst (Stands k s base at r) (of-not t e) x)
+  pub placing-wrong : t ≡ false → AllStand k s base at (rows_in rows) false
+  placing-wrong e = go (subst (Stands k s base at r) e x)
     where
       go : Stands k s base at r false → AllStand k s base at (rows_in rows) false
       go (wrong never) = one-wrong i (omega (arith, length-rows_in rows)) (λ v. never (subst (RowOf k s) (sym it) v))
 
-  pub placing-next : not t ≡ false → Placing k s base at rows (i + 1)
-  placing-next e = go (subst (Stands k s base at r) (of-not-false t e) x)
+  pub placing-next : t ≡ true → Placing k s base at rows (i + 1)
+  placing-next e = go (subst (Stands k s base at r) e x)
     where
       go : Stands k s base at r true → Placing k s base at rows (i + 1)
       go (placed p) =
@@ -90,14 +90,14 @@ module _ (b : Parts) (ok : is_keyed b.keys ≡ true) where
 
   module _ {base count : ℕ} (w : Judging b base count) where
     module _ {area : List ℕ} {at many : ℕ} (m : Marks b.keys b.front base area (Upto at many)) {t : Bool} (x : AllStand b.keys b.front base at b.rows t) where
-      pub judged-wrong : not t ≡ true → Judges b false
-      judged-wrong e = go (subst (AllStand b.keys b.front base at b.rows) (of-not t e) x)
+      pub judged-wrong : t ≡ false → Judges b false
+      judged-wrong e = go (subst (AllStand b.keys b.front base at b.rows) e x)
         where
           go : AllStand b.keys b.front base at b.rows false → Judges b false
           go (one-wrong j h never) = bad (wrong-bad b j h never)
 
-      pub judging-next : not t ≡ false → Judging b at many
-      judging-next e = go (subst (AllStand b.keys b.front base at b.rows) (of-not-false t e) x)
+      pub judging-next : t ≡ true → Judging b at many
+      judging-next e = go (subst (AllStand b.keys b.front base at b.rows) e x)
         where
           go : AllStand b.keys b.front base at b.rows true → Judging b at many
           go (all_placed f) =

@@ -53,15 +53,15 @@ module _ {s : List ℕ} {last next : Row} {i : ℕ} (w : Rising s last i) (h : i
       sym w.same ∙ ap (λ n. is_rising (rows_at n (drop (16 * w.j) s))) m ∙ rising-two (row_count s - i - 1) (drop (16 * w.j) s)
       ∙ rw (a, ← w.at.row, ← l.row, n)
 
-  pub rising-stop : not t ≡ true → false ≡ is_rising (rows_in s)
+  pub rising-stop : t ≡ false → false ≡ is_rising (rows_in s)
   rising-stop e =
-      let more : rank next ≤ rank last = ltb-false (rank last) (rank next) (sym q ∙ of-not t e) in
+      let more : rank next ≤ rank last = ltb-false (rank last) (rank next) (sym q ∙ e) in
       let no : not_after next last ≡ true = after-rank next last l.fits w.at.fits ∙ le-leb (rank next) (rank last) more in
       sym (two ∙ ap (λ b. both (not b) (is_rising (rows_at (row_count s - i) (drop (16 * i) s)))) no ∙ (unfold both in refl))
 
-  pub rising-next : not t ≡ false → Rising s next (i + 1)
+  pub rising-next : t ≡ true → Rising s next (i + 1)
   rising-next e =
-      let less : rank last < rank next = ltb-true (rank last) (rank next) (sym q ∙ of-not-false t e) in
+      let less : rank last < rank next = ltb-true (rank last) (rank next) (sym q ∙ e) in
       let yes : not_after next last ≡ false = after-rank next last l.fits w.at.fits ∙ lt-leb (rank next) (rank last) less in
       record {
         j = i;

@@ -129,13 +129,13 @@ module _ {k : Keyed} {s : List ℕ} {base at : ℕ} {area : List ℕ} (ok : is_k
     before-window h = placed (record { before = before-end; there = λ a b. absurd (omega arith) })
 
     module _ (hi : base ≤ r.offset) {t : Bool} (e : t ≡ marked area (r.offset - base)) where
-      pub unmarked : not t ≡ true → Stands k s base at r false
-      unmarked q = wrong (λ x. not-both (w.all x.n r.offset x.starts hi lo) (sym e ∙ of-not t q))
+      pub unmarked : t ≡ false → Stands k s base at r false
+      unmarked q = wrong (λ x. not-both (w.all x.n r.offset x.starts hi lo) (sym e ∙ q))
 
-      pub by_key : {u : Bool} → not t ≡ false → HasKey k (take (length s - r.offset) (drop r.offset s)) r.key u → Stands k s base at r u
+      pub by_key : {u : Bool} → t ≡ true → HasKey k (take (length s - r.offset) (drop r.offset s)) r.key u → Stands k s base at r u
       by_key {u} q has =
           let z : base + (r.offset - base) ≡ r.offset = omega arith in
-          go (subst (Start k s) z (w.only (r.offset - base) (sym e ∙ of-not-false t q)))
+          go (subst (Start k s) z (w.only (r.offset - base) (sym e ∙ q)))
         where
           says : {m : Message} {rest : List ℕ} → next_of k (drop r.offset s) ≡ next m rest → u ≡ same_key m.key r.key
           says f = has.is (ap (next_of k) (tail s r.offset) ∙ f)

@@ -59,7 +59,7 @@ module _ (by : Feeder) (keeps : Keeps by) (m behind' : List ℕ) where
   ends h [] [] e clean fits good = let z : ◌≡◌ {A = ℕ} 0 1 = cc in absurd (omega arith)
   ends h [] (b ∷ t) e clean fits good = let z : ◌≡◌ {A = ℕ} 0 1 = cc in absurd (omega arith)
   ends {array} {s} {idx} h (c ∷ cs) t e clean fits good =
-      split (cut c (joined cs) t 0 behind' e) (λ h' r q clean' fits' good'. ends h' cs r q clean' fits' good')
+      split (cut c (joined cs) t 0 behind' e) (λ h' r q clean' fits' good'. ends {array = with array idx c} {s = s ++ c} {idx = idx + length c} h' cs r q clean' fits' good')
     where
       split : Cut c (joined cs) t 0 behind' → (Has (with array idx c) (idx + length c) (s ++ c) → (r : List ℕ) → joined cs ≡ r ++ 0 ∷ behind' → to_zero r ≡ none → length ((s ++ c) ++ r) + 1 ≤ room → decode ((s ++ c) ++ r) ≡ some m → Ended by (with array idx c) (idx + length c) false cs m behind') → Ended by array idx false (c ∷ cs) m behind'
       split (late r p q) then = last h t r c cs p clean fits good q

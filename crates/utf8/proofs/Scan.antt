@@ -52,11 +52,11 @@ module _ {s : List ℕ} {from left lo hi i : ℕ} (r : Scan s from left lo hi i)
 
     -- by the answer ok of a test of its range
     module _ {ok : Bool} (e : ok ≡ both (leb lo (get_or s i 0)) (leb (get_or s i 0) hi)) where
-      pub refuses : not ok ≡ true → utf8 (drop from s) ≡ false
-      refuses f = out (sym e ∙ not-true ok f)
+      pub refuses : ok ≡ false → utf8 (drop from s) ≡ false
+      refuses f = out (sym e ∙ f)
 
-      pub goes_on : (j : ℕ) → i + 1 ≡ j → not ok ≡ false → Scan s from k 0x80 0xbf j
-      goes_on j place f = subst (Scan s from k 0x80 0xbf) place (in-range (sym e ∙ not-false ok f))
+      pub goes_on : (j : ℕ) → i + 1 ≡ j → ok ≡ true → Scan s from k 0x80 0xbf j
+      goes_on j place f = subst (Scan s from k 0x80 0xbf) place (in-range (sym e ∙ f))
 
 -- ---- what tests of bytes say
 

@@ -25,7 +25,7 @@ pub follow-to-requires : goal.follow-to-requires
 follow-to-requires c = let inside = children-inside c.requires.good_table c.requires.node_lt_nodes c.child_count-width.ensures c.first_child-from.ensures in record { width_value = head-known _ _ _ _ (sym c.inner_bytes-got.ensures ∙ c.in-Took.is); width_bound = omega arith }
 
 pub follow-toward-requires : goal.follow-toward-requires
-follow-toward-requires c = let inside = children-inside c.requires.good_table c.requires.node_lt_nodes c.child_count-width.ensures c.first_child-from.ensures in record { width_value = head-known _ _ _ _ (sym c.inner_bytes-beside.ensures ∙ c.in-Took-beside.is); width_bound = omega (arith, c.well-formed.0.0) }
+follow-toward-requires c = let inside = children-inside c.requires.good_table c.requires.node_lt_nodes c.child_count-width.ensures c.first_child-from.ensures in record { width_value = head-known _ _ _ _ (sym c.inner_bytes-beside.ensures ∙ c.in-Took-beside.is); width_bound = omega (arith, c.well_formed.0.0) }
 
 pub returns : goal.returns
 returns c = let f : Found _ _ _ = record { kind = c.requires.inner.kind; count = c.child_count-width.ensures } in

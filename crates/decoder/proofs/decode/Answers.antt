@@ -16,9 +16,6 @@ bounds-frame-i c = c.loop-i-test.true
 pub overflow_add-to : goal.overflow_add-to
 overflow_add-to c = record { fits = to-fits c.loop-i.invariant c.loop-i-test.true }
 
-pub gap_after-after-requires : goal.gap_after-after-requires
-gap_after-after-requires c = tt
-
 pub loop-i-smaller-then-code-eq1 : goal.loop-i-smaller-then-code-eq1
 loop-i-smaller-then-code-eq1 c = closer c.loop-i.invariant c.loop-i-test.true
 

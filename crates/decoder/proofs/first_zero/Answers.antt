@@ -4,9 +4,6 @@ use Prim.Native.Nat.{◌-◌}
 use Rattle.decoder.proofs.Search.{seeks-more, seeks-at, seeks-end}
 use Rattle.decoder.proofs.first_zero.Goals as goal
 
-pub near_zero-i-requires : goal.near_zero-i-requires
-near_zero-i-requires c = tt
-
 pub loop-i-init : goal.loop-i-init
 loop-i-init c = c.near_zero-i.ensures
 

@@ -5,32 +5,24 @@ use mathlib.Core.Bool.{true}
 use native.Mathlib.Omega.{arith}
 use Rattle.wire.specs.Answers.{may_take, taken}
 use Rattle.deserializer.proofs.Taking.{leaf, not_taken, beyond, inside, word}
-use Rattle.deserializer.proofs.may_take.Reads as may-take-reads
-use Rattle.leaf.proofs.take.Reads as take-reads
-use Rattle.deserializer.proofs.take_at.Reads as reads
-use Rattle.deserializer.proofs.take_at.Lts as lts
 use Rattle.deserializer.proofs.take_at.Goals as goal
-
--- the kind's test, once it holds
-may : (c : lts.Else1 (may-take-reads.Asked, may-take-reads.Learnt, take-reads.Asked, take-reads.Learnt) reads.Pre reads.Post) → may_take c.args.kind ≡ true
-may c = sym c.may_take.ensures ∙ c.if-not-may_take.false
 
 pub returns-then-not-may_take : goal.returns-then-not-may_take
 returns-then-not-may_take c = not_taken _ _ _ (sym c.may_take.ensures ∙ c.if-not-may_take.true)
 
 pub returns-then-message-place : goal.returns-then-message-place
-returns-then-message-place c = beyond _ _ _ (may c) c.if-message-place.true
+returns-then-message-place c = beyond _ _ _ (let may : may_take c.args.kind ≡ true = sym c.may_take.ensures ∙ c.if-not-may_take.false in may) c.if-message-place.true
 
 pub overflow_cast-kind : goal.overflow_cast-kind
-overflow_cast-kind c = omega (arith, (leaf _ (may c)).0)
+overflow_cast-kind c = omega (arith, (leaf _ (let may : may_take c.args.kind ≡ true = sym c.may_take.ensures ∙ c.if-not-may_take.false in may)).0)
 
 pub overflow_add-behind : goal.overflow_add-behind
-overflow_add-behind c = record { fits = word _ _ c.args.message.now (may c) (omega arith) (omega arith) c.take-got.ensures c.in-Took.is }
+overflow_add-behind c = record { fits = word _ _ c.args.message.now (let may : may_take c.args.kind ≡ true = sym c.may_take.ensures ∙ c.if-not-may_take.false in may) (omega arith) (omega arith) c.take-got.ensures c.in-Took.is }
 
 pub returns-in-Took : goal.returns-in-Took
 unfolding taken
-returns-in-Took c = inside _ _ _ (may c) (omega arith) (omega arith) c.take-got.ensures c.in-Took.is
+returns-in-Took c = inside _ _ _ (let may : may_take c.args.kind ≡ true = sym c.may_take.ensures ∙ c.if-not-may_take.false in may) (omega arith) (omega arith) c.take-got.ensures c.in-Took.is
 
 pub returns-in-Refused : goal.returns-in-Refused
 unfolding taken
-returns-in-Refused c = inside _ _ _ (may c) (omega arith) (omega arith) c.take-got.ensures c.in-Refused.is
+returns-in-Refused c = inside _ _ _ (let may : may_take c.args.kind ≡ true = sym c.may_take.ensures ∙ c.if-not-may_take.false in may) (omega arith) (omega arith) c.take-got.ensures c.in-Refused.is

@@ -5,15 +5,7 @@ use native.Mathlib.Nat.{le_refl}
 use native.Mathlib.Omega.{arith}
 use lib.ListN.{length, take, drop}
 use Rattle.find.proofs.Going.{Going, go-start, go-long, go-inward, go-out, go-in, go-end}
-use Rattle.find.proofs.go.Reads as reads
-use Rattle.find.proofs.go.Lts as lts
-use Rattle.find.proofs.pass.Reads as pass-reads
 use Rattle.find.proofs.go.Goals as goal
-
--- the child was reached
-on : (c : lts.After-passed (pass-reads.Asked, pass-reads.Learnt) reads.Pre reads.Post invariant-loop decreases-loop) → let s = c.args in (c.loop-i.at ≤ c.in-In.next) × (c.in-In.next - c.loop-i.at ≤ length c.loop-i.rest.now) × Going s.table.now s.l s.path.now s.message.now c.in-In.child (c.loop-i.i + 1) (take (length c.loop-i.rest.now - (c.in-In.next - c.loop-i.at)) (drop (c.in-In.next - c.loop-i.at) c.loop-i.rest.now)) c.in-In.next c.in-In.more
-on c = let c = c in let p = c.requires in
-    go-in p.good_table _ _ c.loop-i.invariant p.path_value c.loop-i-test.true c.pass-passed.ensures c.in-In.is
 
 pub loop-i-init : goal.loop-i-init
 loop-i-init c = go-start c.requires.good_table _ _
@@ -26,19 +18,23 @@ returns-in_default c = let p = c.requires in
     go-out p.good_table _ _ c.loop-i.invariant p.path_value c.loop-i-test.true c.pass-passed.ensures c.in_default.is
 
 pub overflow_sub-used : goal.overflow_sub-used
-overflow_sub-used c = (on c).0
+overflow_sub-used c = (let on : let s = c.args in (c.loop-i.at ≤ c.in-In.next) × (c.in-In.next - c.loop-i.at ≤ length c.loop-i.rest.now) × Going s.table.now s.l s.path.now s.message.now c.in-In.child (c.loop-i.i + 1) (take (length c.loop-i.rest.now - (c.in-In.next - c.loop-i.at)) (drop (c.in-In.next - c.loop-i.at) c.loop-i.rest.now)) c.in-In.next c.in-In.more = let c = c in let p = c.requires in
+    go-in p.good_table _ _ c.loop-i.invariant p.path_value c.loop-i-test.true c.pass-passed.ensures c.in-In.is in on).0
 
 pub slice_bounds-rest-count : goal.slice_bounds-rest-count
-slice_bounds-rest-count c = (on c).1
+slice_bounds-rest-count c = (let on : let s = c.args in (c.loop-i.at ≤ c.in-In.next) × (c.in-In.next - c.loop-i.at ≤ length c.loop-i.rest.now) × Going s.table.now s.l s.path.now s.message.now c.in-In.child (c.loop-i.i + 1) (take (length c.loop-i.rest.now - (c.in-In.next - c.loop-i.at)) (drop (c.in-In.next - c.loop-i.at) c.loop-i.rest.now)) c.in-In.next c.in-In.more = let c = c in let p = c.requires in
+    go-in p.good_table _ _ c.loop-i.invariant p.path_value c.loop-i-test.true c.pass-passed.ensures c.in-In.is in on).1
 
 pub slice_bounds-rest-start : goal.slice_bounds-rest-start
-slice_bounds-rest-start c = (on c).1
+slice_bounds-rest-start c = (let on : let s = c.args in (c.loop-i.at ≤ c.in-In.next) × (c.in-In.next - c.loop-i.at ≤ length c.loop-i.rest.now) × Going s.table.now s.l s.path.now s.message.now c.in-In.child (c.loop-i.i + 1) (take (length c.loop-i.rest.now - (c.in-In.next - c.loop-i.at)) (drop (c.in-In.next - c.loop-i.at) c.loop-i.rest.now)) c.in-In.next c.in-In.more = let c = c in let p = c.requires in
+    go-in p.good_table _ _ c.loop-i.invariant p.path_value c.loop-i-test.true c.pass-passed.ensures c.in-In.is in on).1
 
 pub slice_bounds-rest-end : goal.slice_bounds-rest-end
 slice_bounds-rest-end c = le_refl _
 
 pub loop-i-preserved : goal.loop-i-preserved
-loop-i-preserved c = (on c).2
+loop-i-preserved c = (let on : let s = c.args in (c.loop-i.at ≤ c.in-In.next) × (c.in-In.next - c.loop-i.at ≤ length c.loop-i.rest.now) × Going s.table.now s.l s.path.now s.message.now c.in-In.child (c.loop-i.i + 1) (take (length c.loop-i.rest.now - (c.in-In.next - c.loop-i.at)) (drop (c.in-In.next - c.loop-i.at) c.loop-i.rest.now)) c.in-In.next c.in-In.more = let c = c in let p = c.requires in
+    go-in p.good_table _ _ c.loop-i.invariant p.path_value c.loop-i-test.true c.pass-passed.ensures c.in-In.is in on).2
 
 pub returns : goal.returns
 returns c = let p = c.requires in go-end p.good_table _ _ c.loop-i.invariant p.path_value c.loop-i-test.false

@@ -8,9 +8,6 @@ use Rattle.framer.proofs.put_run.Goals as goal
 pub overflow_sub-left : goal.overflow_sub-left
 overflow_sub-left c = c.requires.within
 
-pub most_bytes-most-requires : goal.most_bytes-most-requires
-most_bytes-most-requires c = tt
-
 pub loop-n-init : goal.loop-n-init
 loop-n-init c = running-begin c.requires.within c.most_bytes-most.ensures
 

@@ -26,7 +26,7 @@ pub returns-in_default : goal.returns-in_default
 returns-in_default c = passing-never (all c.requires.keeps) c.requires.keyed_by.fits c.loop-at.invariant.0.passed c.loop-at-test.true c.next-next.ensures c.in_default.is
 
 pub overflow_add-behind : goal.overflow_add-behind
-overflow_add-behind c = omega (arith, passing-inside (all c.requires.keeps) c.requires.keyed_by.fits c.loop-at.invariant.0.passed c.loop-at-test.true c.next-next.ensures c.in-Message.is, c.well-formed.1.1.1.0.1)
+overflow_add-behind c = omega (arith, passing-inside (all c.requires.keeps) c.requires.keyed_by.fits c.loop-at.invariant.0.passed c.loop-at-test.true c.next-next.ensures c.in-Message.is, c.well_formed.1.1.1.0.1)
 
 pub window_at-base-requires : goal.window_at-base-requires
 window_at-base-requires c = record { rows_value = good-sorted (all c.requires.keeps); lasts = c.loop-at.invariant.1.lasts; base_le_at = (c.loop-at.invariant.1.from, omega (arith, c.requires.area_nonzero, c.loop-at.invariant.1.long, c.area-1.given)) }
@@ -41,10 +41,10 @@ pub put_kept-requires : goal.put_kept-requires
 put_kept-requires c = keeping-room c.requires.keeps c.requires.keyed_by c.loop-at.invariant.0 c.loop-at-test.true c.next-next.ensures c.in-Message.is (mark-tells (all c.requires.keeps) c.requires.keyed_by.fits c.loop-at.invariant.0.passed c.loop-at-test.true c.next-next.ensures c.in-Message.is c.window_at-base.ensures c.is_marked.ensures) c.if-is_marked.true
 
 pub overflow_add-to : goal.overflow_add-to
-overflow_add-to c = omega (arith, keeping-fits c.requires.keeps c.requires.keyed_by c.loop-at.invariant.0 c.loop-at-test.true c.next-next.ensures c.in-Message.is (mark-tells (all c.requires.keeps) c.requires.keyed_by.fits c.loop-at.invariant.0.passed c.loop-at-test.true c.next-next.ensures c.in-Message.is c.window_at-base.ensures c.is_marked.ensures) c.if-is_marked.true, keeping-room c.requires.keeps c.requires.keyed_by c.loop-at.invariant.0 c.loop-at-test.true c.next-next.ensures c.in-Message.is (mark-tells (all c.requires.keeps) c.requires.keyed_by.fits c.loop-at.invariant.0.passed c.loop-at-test.true c.next-next.ensures c.in-Message.is c.window_at-base.ensures c.is_marked.ensures) c.if-is_marked.true, keeping-size c.requires.keeps c.requires.keyed_by c.loop-at.invariant.0, c.well-formed.1.1.1.1.1.1.1.0.1)
+overflow_add-to c = omega (arith, keeping-fits c.requires.keeps c.requires.keyed_by c.loop-at.invariant.0 c.loop-at-test.true c.next-next.ensures c.in-Message.is (mark-tells (all c.requires.keeps) c.requires.keyed_by.fits c.loop-at.invariant.0.passed c.loop-at-test.true c.next-next.ensures c.in-Message.is c.window_at-base.ensures c.is_marked.ensures) c.if-is_marked.true, keeping-room c.requires.keeps c.requires.keyed_by c.loop-at.invariant.0 c.loop-at-test.true c.next-next.ensures c.in-Message.is (mark-tells (all c.requires.keeps) c.requires.keyed_by.fits c.loop-at.invariant.0.passed c.loop-at-test.true c.next-next.ensures c.in-Message.is c.window_at-base.ensures c.is_marked.ensures) c.if-is_marked.true, keeping-size c.requires.keeps c.requires.keyed_by c.loop-at.invariant.0, c.well_formed.1.1.1.1.1.1.1.0.1)
 
 pub overflow_add-many : goal.overflow_add-many
-overflow_add-many c = omega (arith, keeping-room c.requires.keeps c.requires.keyed_by c.loop-at.invariant.0 c.loop-at-test.true c.next-next.ensures c.in-Message.is (mark-tells (all c.requires.keeps) c.requires.keyed_by.fits c.loop-at.invariant.0.passed c.loop-at-test.true c.next-next.ensures c.in-Message.is c.window_at-base.ensures c.is_marked.ensures) c.if-is_marked.true, keeping-size c.requires.keeps c.requires.keyed_by c.loop-at.invariant.0, c.well-formed.1.1.1.1.1.1.1.0.1)
+overflow_add-many c = omega (arith, keeping-room c.requires.keeps c.requires.keyed_by c.loop-at.invariant.0 c.loop-at-test.true c.next-next.ensures c.in-Message.is (mark-tells (all c.requires.keeps) c.requires.keyed_by.fits c.loop-at.invariant.0.passed c.loop-at-test.true c.next-next.ensures c.in-Message.is c.window_at-base.ensures c.is_marked.ensures) c.if-is_marked.true, keeping-size c.requires.keeps c.requires.keyed_by c.loop-at.invariant.0, c.well_formed.1.1.1.1.1.1.1.0.1)
 
 pub loop-at-smaller-then-is_marked : goal.loop-at-smaller-then-is_marked
 loop-at-smaller-then-is_marked c = omega (arith, passing-on (all c.requires.keeps) c.requires.keyed_by.fits c.loop-at.invariant.0.passed c.loop-at-test.true c.next-next.ensures c.in-Message.is, c.loop-at-test.true)

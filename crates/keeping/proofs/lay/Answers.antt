@@ -14,7 +14,7 @@ pub keep-requires : goal.keep-requires
 keep-requires c = record { keyed_by = c.requires.keyed_by; keeps = c.requires.keeps; area_nonzero = c.requires.area_nonzero }
 
 pub put_trailer-requires : goal.put_trailer-requires
-put_trailer-requires c = record { out_len = lay-twelve c.args.count c.requires.keyed_by c.requires.keeps c.requires.out_len c.keep.ensures (λ i. omega (arith, c.shared_slice_known-3-1.given i)) c.sort.ensures; count_bound = omega (arith, c.requires.out_len, c.well-formed.1.1.1.1.1.1.1.1.0.1) }
+put_trailer-requires c = record { out_len = lay-twelve c.args.count c.requires.keyed_by c.requires.keeps c.requires.out_len c.keep.ensures (λ i. omega (arith, c.shared_slice_known-3-1.given i)) c.sort.ensures; count_bound = omega (arith, c.requires.out_len, c.well_formed.1.1.1.1.1.1.1.1.0.1) }
 
 pub returns : goal.returns
 returns c = lay-ends c.args.count c.requires.keyed_by c.requires.keeps c.requires.out_len c.keep.ensures (λ i. omega (arith, c.shared_slice_known-3-1.given i)) c.sort.ensures c.place_of-store.ensures c.place_of-product.ensures c.put_trailer.ensures

@@ -21,10 +21,10 @@ pub put-requires : goal.put-requires
 put-requires c = filling-room c.requires.keyed_by.fits c.requires.whole c.loop-at.invariant c.loop-at-test.true c.next-next.ensures c.in-Message.is
 
 pub overflow_add-at : goal.overflow_add-at
-overflow_add-at c = omega (arith, filling-more c.requires.keyed_by.fits c.requires.whole c.loop-at.invariant c.loop-at-test.true c.next-next.ensures c.in-Message.is, c.well-formed.1.1.1.0.1)
+overflow_add-at c = omega (arith, filling-more c.requires.keyed_by.fits c.requires.whole c.loop-at.invariant c.loop-at-test.true c.next-next.ensures c.in-Message.is, c.well_formed.1.1.1.0.1)
 
 pub overflow_add-many : goal.overflow_add-many
-overflow_add-many c = omega (arith, c.loop-at.invariant.so_far.few, c.loop-at-test.true, c.well-formed.1.1.1.0.1)
+overflow_add-many c = omega (arith, c.loop-at.invariant.so_far.few, c.loop-at-test.true, c.well_formed.1.1.1.0.1)
 
 pub loop-at-smaller : goal.loop-at-smaller
 loop-at-smaller c = omega (arith, filling-on c.requires.keyed_by.fits c.requires.whole c.loop-at.invariant c.loop-at-test.true c.next-next.ensures c.in-Message.is, c.loop-at-test.true)

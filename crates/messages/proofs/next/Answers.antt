@@ -28,7 +28,7 @@ pub returns-then-end-len : goal.returns-then-end-len
 returns-then-end-len c = all_past _ _ _ _ c.requires c.past_keys-both.ensures c.if-len-at.false c.if-made-gt-ROOM.false c.past_ints-end.ensures c.if-end-len.true c.key_by-key.ensures
 
 pub skim-got-requires : goal.skim-got-requires
-skim-got-requires c = record { good_table = c.requires.good; falls = behind-falls _ _ _ c.requires; part_bound = rest-bound c.args.part.now c.if-len-at.false (omega (arith, c.well-formed.1.1.1.0.1)) }
+skim-got-requires c = record { good_table = c.requires.good; falls = behind-falls _ _ _ c.requires; part_bound = rest-bound c.args.part.now c.if-len-at.false (omega (arith, c.well_formed.1.1.1.0.1)) }
 
 pub returns-in-Refused : goal.returns-in-Refused
 returns-in-Refused c = rest-stops _ _ _ _ c.requires c.past_keys-both.ensures c.if-len-at.false c.if-made-gt-ROOM.false (sym c.in-Refused.is ∙ c.skim-got.ensures)

@@ -42,7 +42,7 @@ pub slice_bounds-skim-start : goal.slice_bounds-skim-start
 slice_bounds-skim-start c = second-inside _ _ _ _ c.requires c.key_word-one.ensures c.in-Took.is c.key_word-other.ensures c.in-Took-other.is
 
 pub skim-got-requires : goal.skim-got-requires
-skim-got-requires c = record { good_table = c.requires.good; falls = third-falls _ _ _ c.requires; part_bound = rest-bound c.args.part.now (second-inside _ _ _ _ c.requires c.key_word-one.ensures c.in-Took.is c.key_word-other.ensures c.in-Took-other.is) (omega (arith, c.well-formed.1.1.1.0.1)) }
+skim-got-requires c = record { good_table = c.requires.good; falls = third-falls _ _ _ c.requires; part_bound = rest-bound c.args.part.now (second-inside _ _ _ _ c.requires c.key_word-one.ensures c.in-Took.is c.key_word-other.ensures c.in-Took-other.is) (omega (arith, c.well_formed.1.1.1.0.1)) }
 
 pub returns-in-Refused : goal.returns-in-Refused
 returns-in-Refused c = first_stops _ _ _ _ c.requires c.key_word-one.ensures c.in-Refused.is

@@ -11,16 +11,16 @@ pub overflow_sub-child : goal.overflow_sub-child
 overflow_sub-child c = chain_left c.requires.chain
 
 pub overflow_mul-child : goal.overflow_mul-child
-overflow_mul-child c = let p = c.requires in omega (arith, (chain-falls p.chain).inside, chain_left p.chain, c.well-formed.1.0)
+overflow_mul-child c = let p = c.requires in omega (arith, (chain-falls p.chain).inside, chain_left p.chain, c.well_formed.1.0)
 
 pub overflow_add-child : goal.overflow_add-child
-overflow_add-child c = let p = c.requires in omega (arith, (chain-falls p.chain).inside, chain_left p.chain, c.well-formed.1.0)
+overflow_add-child c = let p = c.requires in omega (arith, (chain-falls p.chain).inside, chain_left p.chain, c.well_formed.1.0)
 
 pub u16_at-c-requires : goal.u16_at-c-requires
 u16_at-c-requires c = let p = c.requires in omega (arith, (chain-falls p.chain).inside, chain_left p.chain, p.left_nonzero)
 
 pub hold-requires : goal.hold-requires
-hold-requires c = let p = c.requires in record { i_in_bounds = held-room _ _ p.chain p.list_len; width_bound = omega (arith, (chain-falls p.chain).inside, c.well-formed.1.0) }
+hold-requires c = let p = c.requires in record { i_in_bounds = held-room _ _ p.chain p.list_len; width_bound = omega (arith, (chain-falls p.chain).inside, c.well_formed.1.0) }
 
 pub overflow_add-depth : goal.overflow_add-depth
 overflow_add-depth c = let p = c.requires in omega (arith, held-room _ _ p.chain p.list_len, p.list_len)

@@ -22,7 +22,7 @@ pub flat-way-requires : goal.flat-way-requires
 flat-way-requires c = let p = c.requires in record { good_table = p.good_table; node_le_nodes = omega (arith, p.node_lt_nodes); falls = (taken (head-by-sound _) _ p.good_table p.node_lt_nodes _ _ _ _ p.made_lt_room c.enter-entered.ensures c.in-On.is).falls }
 
 pub hold-requires : goal.hold-requires
-hold-requires c = let p = c.requires in record { i_in_bounds = opens-room (head-by-sound _) _ p.good_table p.node_lt_nodes _ _ _ _ p.made_lt_room c.enter-entered.ensures c.in-On.is _ _ p.chain (omega arith) p.list_len; width_bound = omega (arith, (flat-falls p.good_table (omega (arith, p.node_lt_nodes)) c.flat-way.ensures).inside, c.well-formed.1.0) }
+hold-requires c = let p = c.requires in record { i_in_bounds = opens-room (head-by-sound _) _ p.good_table p.node_lt_nodes _ _ _ _ p.made_lt_room c.enter-entered.ensures c.in-On.is _ _ p.chain (omega arith) p.list_len; width_bound = omega (arith, (flat-falls p.good_table (omega (arith, p.node_lt_nodes)) c.flat-way.ensures).inside, c.well_formed.1.0) }
 
 pub overflow_add-deeper : goal.overflow_add-deeper
 overflow_add-deeper c = let p = c.requires in omega (arith, p.list_len, opens-room (head-by-sound _) _ p.good_table p.node_lt_nodes _ _ _ _ p.made_lt_room c.enter-entered.ensures c.in-On.is _ _ p.chain (omega arith) p.list_len)
@@ -31,4 +31,4 @@ pub returns-in-Refused : goal.returns-in-Refused
 returns-in-Refused c = let p = c.requires in opens-refused (head-by-sound _) _ p.good_table p.node_lt_nodes _ _ _ _ p.made_lt_room c.enter-entered.ensures _ c.in-Refused.is
 
 pub returns-else-to-eq0-2 : goal.returns-else-to-eq0-2
-returns-else-to-eq0-2 c = let p = c.requires in opens-held (head-by-sound _) _ p.good_table p.node_lt_nodes _ _ _ _ p.made_lt_room c.enter-entered.ensures c.in-On.is _ _ p.chain (omega arith) p.list_len (omega arith) (omega (arith, c.well-formed.1.0)) c.flat-way.ensures c.hold.ensures
+returns-else-to-eq0-2 c = let p = c.requires in opens-held (head-by-sound _) _ p.good_table p.node_lt_nodes _ _ _ _ p.made_lt_room c.enter-entered.ensures c.in-On.is _ _ p.chain (omega arith) p.list_len (omega arith) (omega (arith, c.well_formed.1.0)) c.flat-way.ensures c.hold.ensures

@@ -16,7 +16,7 @@ pub flat-way-requires : goal.flat-way-requires
 flat-way-requires c = let good = sym c.check-checked.ensures ∙ c.in-Good.is in record { good_table = good-table _ _ good; node_le_nodes = omega arith; falls = root-falls _ good _ c.root_at-root.ensures }
 
 pub hold-requires : goal.hold-requires
-hold-requires c = let good = sym c.check-checked.ensures ∙ c.in-Good.is in record { i_in_bounds = omega (arith, c.requires ∙ list-words); width_bound = omega (arith, (flat-falls (good-table _ _ good) (omega arith) c.flat-way.ensures).inside, c.well-formed.1.0) }
+hold-requires c = let good = sym c.check-checked.ensures ∙ c.in-Good.is in record { i_in_bounds = omega (arith, c.requires ∙ list-words); width_bound = omega (arith, (flat-falls (good-table _ _ good) (omega arith) c.flat-way.ensures).inside, c.well_formed.1.0) }
 
 pub work_off-requires : goal.work_off-requires
 work_off-requires c = let good = sym c.check-checked.ensures ∙ c.in-Good.is in record { good_table = good-table _ _ good; list_len = c.list-1.given ∙ c.requires ∙ list-words; chain = root-chain _ good _ c.root_at-root.ensures c.flat-way.ensures _ (c.requires ∙ list-words) c.hold.ensures }

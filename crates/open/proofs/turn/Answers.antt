@@ -11,35 +11,22 @@ use Rattle.open.proofs.Chains.{chain-falls, chain_left, chain-fewer}
 use Rattle.open.proofs.Holding.{last-room, last-chain, held-room}
 use Rattle.open.proofs.Leading.{falls-last}
 use Rattle.open.proofs.Turning.{last-works, leads-refused, leads-on, inward-child, passed-works, rounds-leaving, round-works, close-works}
-use Rattle.open.proofs.turn.Reads as reads
-use Rattle.open.proofs.turn.Lts as lts
-use Rattle.open.proofs.held_at.Reads as held-at-reads
-use Rattle.open.proofs.next_child.Reads as next-child-reads
-use Rattle.open.proofs.next_round.Reads as next-round-reads
-use Rattle.open.proofs.read_leaves.Reads as read-leaves-reads
 use Rattle.open.proofs.turn.Goals as goal
-
-abbrev calls : lts.Claims
-calls = (held-at-reads.Asked, held-at-reads.Learnt, read-leaves-reads.Asked, read-leaves-reads.Learnt, next-child-reads.Asked, next-child-reads.Learnt, next-round-reads.Asked, next-round-reads.Learnt)
-
--- the last of the open items is above the others
-top : (c : lts.After-held-at calls reads.Pre reads.Post) → Chain c.args.table.now c.args.l 1 (c.held_at-top.result ∷ helds_of c.args.list.now (c.args.depth - 1))
-top c = let p = c.requires in last-chain _ _ p.depth_nonzero p.chain c.held_at-top.ensures
 
 pub held_at-top-requires : goal.held_at-top-requires
 held_at-top-requires c = let p = c.requires in last-room _ _ p.depth_nonzero p.chain p.list_len
 
 pub overflow_sub-child : goal.overflow_sub-child
-overflow_sub-child c = chain_left (top c)
+overflow_sub-child c = chain_left (let top : Chain c.args.table.now c.args.l 1 (c.held_at-top.result ∷ helds_of c.args.list.now (c.args.depth - 1)) = let p = c.requires in last-chain _ _ p.depth_nonzero p.chain c.held_at-top.ensures in top)
 
 pub overflow_mul-child : goal.overflow_mul-child
-overflow_mul-child c = omega (arith, (chain-falls (top c)).inside, c.well-formed.1.0)
+overflow_mul-child c = omega (arith, (chain-falls (let top : Chain c.args.table.now c.args.l 1 (c.held_at-top.result ∷ helds_of c.args.list.now (c.args.depth - 1)) = let p = c.requires in last-chain _ _ p.depth_nonzero p.chain c.held_at-top.ensures in top)).inside, c.well_formed.1.0)
 
 pub overflow_add-child : goal.overflow_add-child
-overflow_add-child c = omega (arith, (chain-falls (top c)).inside, chain_left (top c), c.well-formed.1.0)
+overflow_add-child c = omega (arith, (chain-falls (let top : Chain c.args.table.now c.args.l 1 (c.held_at-top.result ∷ helds_of c.args.list.now (c.args.depth - 1)) = let p = c.requires in last-chain _ _ p.depth_nonzero p.chain c.held_at-top.ensures in top)).inside, chain_left (let top : Chain c.args.table.now c.args.l 1 (c.held_at-top.result ∷ helds_of c.args.list.now (c.args.depth - 1)) = let p = c.requires in last-chain _ _ p.depth_nonzero p.chain c.held_at-top.ensures in top), c.well_formed.1.0)
 
 pub read_leaves-got-requires : goal.read_leaves-got-requires
-read_leaves-got-requires c = let p = c.requires in record { good_table = p.good_table; falls = falls-last (chain-falls (top c)) _ (chain_left (top c)); part_bound = p.part_bound }
+read_leaves-got-requires c = let p = c.requires in record { good_table = p.good_table; falls = falls-last (chain-falls (let top : Chain c.args.table.now c.args.l 1 (c.held_at-top.result ∷ helds_of c.args.list.now (c.args.depth - 1)) = let p = c.requires in last-chain _ _ p.depth_nonzero p.chain c.held_at-top.ensures in top)) _ (chain_left (let top : Chain c.args.table.now c.args.l 1 (c.held_at-top.result ∷ helds_of c.args.list.now (c.args.depth - 1)) = let p = c.requires in last-chain _ _ p.depth_nonzero p.chain c.held_at-top.ensures in top)); part_bound = p.part_bound }
 
 pub returns-in_default : goal.returns-in_default
 returns-in_default c = last-works _ _ c.requires.depth_nonzero c.held_at-top.ensures _ _ _ _ (leads-refused _ _ _ _ _ _ c.read_leaves-got.ensures c.in_default.is)
@@ -56,22 +43,22 @@ slice_bounds-next_child-start c = (leads-on c.read_leaves-got.ensures c.in-On.is
 pub next_child-requires : goal.next_child-requires
 next_child-requires c = let p = c.requires in
     let along = leads-on c.read_leaves-got.ensures c.in-On.is in
-    let inner = inward-child c.held_at-top.result (chain_left (top c)) along.0.fewer along.1 c.if-left-gt0.true in record { good_table = p.good_table; part_bound = omega (arith, p.part_bound, along.0.up, along.0.inside, length-tail c.args.part.now (c.in-On.at - c.args.place)); made_lt_room = inner.0; left_nonzero = c.if-left-gt0.true; inner = inner.1; list_len = p.list_len; chain = chain-fewer (top c) along.0.fewer }
+    let inner = inward-child c.held_at-top.result (chain_left (let top : Chain c.args.table.now c.args.l 1 (c.held_at-top.result ∷ helds_of c.args.list.now (c.args.depth - 1)) = let p = c.requires in last-chain _ _ p.depth_nonzero p.chain c.held_at-top.ensures in top)) along.0.fewer along.1 c.if-left-gt0.true in record { good_table = p.good_table; part_bound = omega (arith, p.part_bound, along.0.up, along.0.inside, length-tail c.args.part.now (c.in-On.at - c.args.place)); made_lt_room = inner.0; left_nonzero = c.if-left-gt0.true; inner = inner.1; list_len = p.list_len; chain = chain-fewer (let top : Chain c.args.table.now c.args.l 1 (c.held_at-top.result ∷ helds_of c.args.list.now (c.args.depth - 1)) = let p = c.requires in last-chain _ _ p.depth_nonzero p.chain c.held_at-top.ensures in top) along.0.fewer }
 
 pub returns-then-left-gt0 : goal.returns-then-left-gt0
 returns-then-left-gt0 c = let along = leads-on c.read_leaves-got.ensures c.in-On.is in
-    last-works _ _ c.requires.depth_nonzero c.held_at-top.ensures _ _ _ _ (passed-works _ _ _ _ _ _ along.0 (chain_left (top c)) (tail c.args.part.now (c.in-On.at - c.args.place)) c.next_child.ensures)
+    last-works _ _ c.requires.depth_nonzero c.held_at-top.ensures _ _ _ _ (passed-works _ _ _ _ _ _ along.0 (chain_left (let top : Chain c.args.table.now c.args.l 1 (c.held_at-top.result ∷ helds_of c.args.list.now (c.args.depth - 1)) = let p = c.requires in last-chain _ _ p.depth_nonzero p.chain c.held_at-top.ensures in top)) (tail c.args.part.now (c.in-On.at - c.args.place)) c.next_child.ensures)
 
 pub next_round-requires : goal.next_round-requires
-next_round-requires c = record { i_in_bounds = held-room _ _ (top c) c.requires.list_len; width_bound = omega (arith, (chain-falls (top c)).inside, c.well-formed.1.0); rounds_nonzero = omega (arith, c.if-top-gt0.true) }
+next_round-requires c = record { i_in_bounds = held-room _ _ (let top : Chain c.args.table.now c.args.l 1 (c.held_at-top.result ∷ helds_of c.args.list.now (c.args.depth - 1)) = let p = c.requires in last-chain _ _ p.depth_nonzero p.chain c.held_at-top.ensures in top) c.requires.list_len; width_bound = omega (arith, (chain-falls (let top : Chain c.args.table.now c.args.l 1 (c.held_at-top.result ∷ helds_of c.args.list.now (c.args.depth - 1)) = let p = c.requires in last-chain _ _ p.depth_nonzero p.chain c.held_at-top.ensures in top)).inside, c.well_formed.1.0); rounds_nonzero = omega (arith, c.if-top-gt0.true) }
 
 pub returns-then-top-gt0 : goal.returns-then-top-gt0
 returns-then-top-gt0 c = let along = leads-on c.read_leaves-got.ensures c.in-On.is in
-    let chain = chain-fewer (top c) along.0.fewer in
+    let chain = chain-fewer (let top : Chain c.args.table.now c.args.l 1 (c.held_at-top.result ∷ helds_of c.args.list.now (c.args.depth - 1)) = let p = c.requires in last-chain _ _ p.depth_nonzero p.chain c.held_at-top.ensures in top) along.0.fewer in
     last-works _ _ c.requires.depth_nonzero c.held_at-top.ensures _ _ _ _
-    (passed-works _ _ _ _ _ _ along.0 (chain_left (top c)) refl (round-works _ _ _ _ _ _ _ c.if-left-gt0.false chain (head-by-sound _) (omega (arith, c.if-top-gt0.true)) (held-room _ _ (top c) c.requires.list_len) (rounds-leaving _ c.next_round.ensures)))
+    (passed-works _ _ _ _ _ _ along.0 (chain_left (let top : Chain c.args.table.now c.args.l 1 (c.held_at-top.result ∷ helds_of c.args.list.now (c.args.depth - 1)) = let p = c.requires in last-chain _ _ p.depth_nonzero p.chain c.held_at-top.ensures in top)) refl (round-works _ _ _ _ _ _ _ c.if-left-gt0.false chain (head-by-sound _) (omega (arith, c.if-top-gt0.true)) (held-room _ _ (let top : Chain c.args.table.now c.args.l 1 (c.held_at-top.result ∷ helds_of c.args.list.now (c.args.depth - 1)) = let p = c.requires in last-chain _ _ p.depth_nonzero p.chain c.held_at-top.ensures in top) c.requires.list_len) (rounds-leaving _ c.next_round.ensures)))
 
 pub returns : goal.returns
 returns c = let along = leads-on c.read_leaves-got.ensures c.in-On.is in
-    let chain = chain-fewer (top c) along.0.fewer in
-    last-works _ _ c.requires.depth_nonzero c.held_at-top.ensures _ _ _ _ (passed-works _ _ _ _ _ _ along.0 (chain_left (top c)) refl (close-works _ _ _ _ _ _ _ c.if-left-gt0.false chain (omega (arith, c.if-top-gt0.false))))
+    let chain = chain-fewer (let top : Chain c.args.table.now c.args.l 1 (c.held_at-top.result ∷ helds_of c.args.list.now (c.args.depth - 1)) = let p = c.requires in last-chain _ _ p.depth_nonzero p.chain c.held_at-top.ensures in top) along.0.fewer in
+    last-works _ _ c.requires.depth_nonzero c.held_at-top.ensures _ _ _ _ (passed-works _ _ _ _ _ _ along.0 (chain_left (let top : Chain c.args.table.now c.args.l 1 (c.held_at-top.result ∷ helds_of c.args.list.now (c.args.depth - 1)) = let p = c.requires in last-chain _ _ p.depth_nonzero p.chain c.held_at-top.ensures in top)) refl (close-works _ _ _ _ _ _ _ c.if-left-gt0.false chain (omega (arith, c.if-top-gt0.false))))

@@ -11,7 +11,7 @@ loop-depth-init c = (record { whole = refl; chain = c.requires.chain; fits = ome
 
 pub turn-got-requires : goal.turn-got-requires
 turn-got-requires c = let p = c.requires in
-    let i = c.loop-depth.invariant in record { good_table = p.good_table; part_bound = omega (arith, i.0.fits, c.well-formed.1.1.1.0); list_len = i.2 ∙ p.list_len; depth_nonzero = c.loop-depth-test.true; chain = i.0.chain }
+    let i = c.loop-depth.invariant in record { good_table = p.good_table; part_bound = omega (arith, i.0.fits, c.well_formed.1.1.1.0); list_len = i.2 ∙ p.list_len; depth_nonzero = c.loop-depth-test.true; chain = i.0.chain }
 
 pub shape_of-store-in-Refused : goal.shape_of-store-in-Refused
 shape_of-store-in-Refused c = c.store-1.given ∙ c.loop-depth.invariant.1

@@ -70,10 +70,10 @@ pub overflow_sub-olds : goal.overflow_sub-olds
 overflow_sub-olds c = c.loop-olds-test.true
 
 pub overflow_add-from : goal.overflow_add-from
-overflow_add-from c = omega (arith, c.loop-olds.invariant.0.olds.inside, c.well-formed.0)
+overflow_add-from c = omega (arith, c.loop-olds.invariant.0.olds.inside, c.well_formed.0)
 
 pub overflow_add-at : goal.overflow_add-at
-overflow_add-at c = omega (arith, c.loop-olds.invariant.0.news.inside, c.well-formed.1.1.1.0)
+overflow_add-at c = omega (arith, c.loop-olds.invariant.0.news.inside, c.well_formed.1.1.1.0)
 
 pub loop-olds-preserved : goal.loop-olds-preserved
 loop-olds-preserved c = (

@@ -26,7 +26,7 @@ kind_at-number-requires c = let good = sym c.check-checked.ensures ∙ c.in-Good
 
 pub lay-requires : goal.lay-requires
 unfolding judged
-lay-requires c = record { ends = leaf-ends _ _ _ false _ (omega (arith, c.well-formed.1.0)) c.take-item.ensures; made_bound = omega arith }
+lay-requires c = record { ends = leaf-ends _ _ _ false _ (omega (arith, c.well_formed.1.0)) c.take-item.ensures; made_bound = omega arith }
 
 pub returns-then-room-gt0 : goal.returns-then-room-gt0
 unfolding room_of reads
@@ -34,7 +34,7 @@ returns-then-room-gt0 c = let good = sym c.check-checked.ensures ∙ c.in-Good.i
     let outer = not-inner _ (sym c.is_inner.ensures ∙ c.if-not-is_inner.true) in
     reads_whole _ _ _ _
     (rw c.room-room.ensures
-    at (with-leaf _ _ _ _ _ good c.root_at-root.ensures c.u16_at-node.ensures.0 c.if-room-gt0.true c.kind_at-number.ensures outer (omega (arith, c.well-formed.1.0)) c.take-item.ensures c.lay.ensures))
+    at (with-leaf _ _ _ _ _ good c.root_at-root.ensures c.u16_at-node.ensures.0 c.if-room-gt0.true c.kind_at-number.ensures outer (omega (arith, c.well_formed.1.0)) c.take-item.ensures c.lay.ensures))
 
 pub read_rounds-requires : goal.read_rounds-requires
 read_rounds-requires c = let good = sym c.check-checked.ensures ∙ c.in-Good.is in record { good_table = good-table _ _ good; node_le_nodes = omega arith; falls = flat-falls (good-table _ _ good) (omega arith) c.flat-way.ensures; part_bound = omega arith }

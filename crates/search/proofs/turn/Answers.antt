@@ -12,17 +12,14 @@ loop-low-init c = turning-begin _ _
 
 pub overflow_add-half : goal.overflow_add-half
 unfolding row_count
-overflow_add-half c = omega (arith, c.loop-low.invariant.inside, c.well-formed.0.1)
+overflow_add-half c = omega (arith, c.loop-low.invariant.inside, c.well_formed.0.1)
 
 pub load-found-requires : goal.load-found-requires
 load-found-requires c = omega (arith, c.loop-low.invariant.inside)
 
-pub not_after-requires : goal.not_after-requires
-not_after-requires c = tt
-
 pub overflow_add-low : goal.overflow_add-low
 unfolding row_count
-overflow_add-low c = omega (arith, c.loop-low.invariant.inside, c.well-formed.0.1)
+overflow_add-low c = omega (arith, c.loop-low.invariant.inside, c.well_formed.0.1)
 
 pub loop-low-preserved-then-not_after : goal.loop-low-preserved-then-not_after
 loop-low-preserved-then-not_after c = turning-up c.loop-low.invariant c.loop-low-test.true refl c.load-found.ensures c.not_after.ensures c.if-not_after.true

@@ -17,7 +17,7 @@ unfolding is_second low_of high_of pick
 returns-in-237 c = rw c.in-237.is c.is_in-in-237.ensures
 
 pub returns-in_default : goal.returns-in_default
-returns-in_default c = let k = (λ e. omega arith) in c.is_in-in_default.ensures ∙ sym (whole _ _ k.0.1 k.1 (λ e. omega arith) (λ e. omega arith))
+returns-in_default c = c.is_in-in_default.ensures ∙ sym (whole _ _ (λ e. omega arith) (λ e. omega arith) (λ e. omega arith) (λ e. omega arith))
 
 pub returns-in-240 : goal.returns-in-240
 unfolding is_second low_of high_of pick
@@ -28,4 +28,4 @@ unfolding is_second low_of high_of pick
 returns-in-244 c = rw c.in-244.is c.is_in-in-244.ensures
 
 pub returns-in_default-lead : goal.returns-in_default-lead
-returns-in_default-lead c = let k = (λ e. omega arith) in c.is_in-in_default-lead.ensures ∙ sym (whole _ _ (λ e. omega arith) (λ e. omega arith) k.0.1 k.1)
+returns-in_default-lead c = c.is_in-in_default-lead.ensures ∙ sym (whole _ _ (λ e. omega arith) (λ e. omega arith) (λ e. omega arith) (λ e. omega arith))

@@ -26,13 +26,13 @@ second-second-requires c = omega arith
 pub returns-then-second-eq0 : goal.returns-then-second-eq0
 unfolding room_of
 returns-then-second-eq0 c = record {
-      is = λ e. record {
-        low = omega arith;
-        wide = omega arith;
-        more = omega arith;
-        fits = λ pool. rw (← c.first-first.ensures, ← c.second-second.ensures, c.if-second-eq0.true) (sym ((c.fits_int.ensures.with 0).at pool) ∙ e);
-      };
-    }
+  is = λ e. record {
+    low = omega arith;
+    wide = omega arith;
+    more = omega arith;
+    fits = λ pool. rw (← c.first-first.ensures, ← c.second-second.ensures, c.if-second-eq0.true) (sym ((c.fits_int.ensures.with 0).at pool) ∙ e);
+  };
+}
 
 pub returns : goal.returns
 returns c = record { is = λ e. not-both e refl }

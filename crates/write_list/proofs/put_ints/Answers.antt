@@ -41,7 +41,7 @@ loop-left-preserved c = let inv = c.loop-left.invariant.0 in
     let low = falls-first inv.falls more in (
       record {
         falls = falls-next inv.falls more;
-        going = λ pool. first_done (few_bytes _ c.well-formed.1.1.1.1.1.1.0.1) (inv.going pool) (stretch-first _ _ _ _ _ _ c.u16_at-c.ensures.0 more)
+        going = λ pool. first_done (few_bytes _ c.well_formed.1.1.1.1.1.1.0.1) (inv.going pool) (stretch-first _ _ _ _ _ _ c.u16_at-c.ensures.0 more)
             (ready-gives c.requires.good_table (omega arith) c.kind_at-number.ensures (c.is_ready.ensures.is c.if-not-is_ready.false) c.first-first.ensures c.put_ready-n.ensures pool) refl;
       },
       search rules,

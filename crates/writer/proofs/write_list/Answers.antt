@@ -34,7 +34,7 @@ slice_bounds-put_bytes-end c = sym (length-take-le _ _ (omega arith))
 
 pub returns-then-n-out : goal.returns-then-n-out
 unfolding room_of
-returns-then-n-out c = let whole = c.if-front-len.true in writes-whole _ _ _ _ c.requires (are-whole (length c.args.words.now) _ whole) (judged-short _ (reaches_end c.put_front-front.ensures c.if-front-eq0.true) refl (few_bytes _ c.well-formed.1.1.1.1.0.1) (omega arith) c.if-n-out.true (omega arith) c.put_bytes.ensures)
+returns-then-n-out c = let whole = c.if-front-len.true in writes-whole _ _ _ _ c.requires (are-whole (length c.args.words.now) _ whole) (judged-short _ (reaches_end c.put_front-front.ensures c.if-front-eq0.true) refl (few_bytes _ c.well_formed.1.1.1.1.0.1) (omega arith) c.if-n-out.true (omega arith) c.put_bytes.ensures)
 
 pub write_begun-requires-2 : goal.write_begun-requires-2
 write_begun-requires-2 c = let a = c.args in let t = tail a.table.now 0 in let w = tail a.words.now 0 in let p = tail a.pool.now 0 in rw (t, w, p) (c.requires, is-kept c.put_front-front.ensures (search rules))

@@ -8,14 +8,8 @@ use Rattle.recorded.proofs.field.is_whole.Goals as goal
 pub loop-left-init : goal.loop-left-init
 loop-left-init c = refl
 
-pub end_of-requires : goal.end_of-requires
-end_of-requires c = tt
-
 pub returns-then-end_of-eq0 : goal.returns-then-end_of-eq0
 returns-then-end_of-eq0 c = whole-cut _ _ c.loop-left-test.true (omega (arith, c.end_of.ensures.right)) ∙ c.loop-left.invariant
-
-pub behind-next-requires : goal.behind-next-requires
-behind-next-requires c = tt
 
 pub loop-left-preserved : goal.loop-left-preserved
 loop-left-preserved c = rw c.behind-next.ensures (whole-more _ _ c.loop-left-test.true (λ e. c.if-end_of-eq0.false (c.end_of.ensures.right ∙ e)) ∙ c.loop-left.invariant)

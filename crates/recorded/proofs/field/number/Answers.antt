@@ -11,9 +11,6 @@ loop-i-init c = counts-none _
 pub returns-then-value-gt-MOST : goal.returns-then-value-gt-MOST
 returns-then-value-gt-MOST c = counts-full c.loop-i.invariant c.loop-i-test.true c.if-value-gt-MOST.true
 
-pub wide-requires : goal.wide-requires
-wide-requires c = tt
-
 pub overflow_add-value : goal.overflow_add-value
 overflow_add-value c = omega (arith, c.wide.ensures, c.shared_slice_known-1.given c.loop-i.i)
 

@@ -8,14 +8,8 @@ use Rattle.recorded.proofs.field.part.Goals as goal
 pub loop-left-init : goal.loop-left-init
 loop-left-init c = refl
 
-pub behind-next-requires : goal.behind-next-requires
-behind-next-requires c = tt
-
 pub loop-left-preserved : goal.loop-left-preserved
 loop-left-preserved c = rw c.behind-next.ensures (part-more _ _ c.loop-left-test.true ∙ c.loop-left.invariant)
-
-pub first-requires : goal.first-requires
-first-requires c = tt
 
 pub returns : goal.returns
 returns c = c.first.ensures ∙ part_none _ _ (omega arith) ∙ c.loop-left.invariant

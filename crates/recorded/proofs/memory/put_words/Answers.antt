@@ -21,9 +21,6 @@ returns-then-rest-lt8 c = lays_all c.loop-i.invariant.0 c.if-rest-lt8.true
 pub slice_bounds-number-end : goal.slice_bounds-number-end
 slice_bounds-number-end c = sym (length-take-le 8 c.loop-i.rest.now (omega arith))
 
-pub number-requires : goal.number-requires
-number-requires c = tt
-
 pub loop-i-smaller : goal.loop-i-smaller
 loop-i-smaller c = simp length-set (omega arith)
 

@@ -1,0 +1,47 @@
+-- The cycle of calls: an item, one with children, the rounds of the stretch that follows it, one round. The node's number falls from an item to those of its stretch.
+-- Assumes nothing.
+use mathlib.Core.Path.{◌≡◌}
+use Prim.Native.Nat.{ℕ, ◌+◌, ◌*◌, ◌-◌, ◌≤◌}
+use lib.ListN.{length}
+use Rattle.table.specs.Parts.{Falls, row_step, rounds_step}
+use Rattle.read_item.specs.Steps.{spot}
+use Rattle.desk.specs.Path.{most_entries}
+use Rattle.desk.specs.Differ.{beside}
+use Rattle.beside.specs.Meeting.{meeting}
+use Rattle.compare_walk.specs.Steps.{lay}
+use Rattle.compare_walk.proofs.+walk_inner_walk_item_walk_rounds_walk_stretch.Given as goal
+
+abbrev pub decreases-walk_inner : goal.decreases-walk_inner
+decreases-walk_inner l = l.node * 4 + 2
+
+abbrev pub decreases-walk_item : goal.decreases-walk_item
+decreases-walk_item l = l.node * 4 + 3
+
+abbrev pub decreases-walk_rounds : goal.decreases-walk_rounds
+decreases-walk_rounds l = l.node * 4 + 1
+
+abbrev pub decreases-walk_stretch : goal.decreases-walk_stretch
+decreases-walk_stretch l = l.node * 4 + 0
+
+-- ---- the rounds
+abbrev pub invariant-walk_rounds-loop-turns : goal.invariant-walk_rounds-loop-turns
+invariant-walk_rounds-loop-turns l = (lay most_entries (rounds_step meeting l.table l.l l.rounds l.headed l.from l.width (beside (spot l.part l.place) (spot l.other l.there))) l.ones l.others l.count l.initial.list ≡ lay most_entries (rounds_step meeting l.table l.l l.turns l.headed l.from l.width (beside (spot l.rest l.at) (spot l.left l.by))) l.made l.more l.pairs l.list)
+  × (l.at + length l.rest ≡ l.place + length l.part)
+  × (l.by + length l.left ≡ l.there + length l.other)
+  × (l.pairs ≤ l.made)
+  × (length l.list ≡ length l.initial.list)
+
+abbrev pub decreases-walk_rounds-loop-turns : goal.decreases-walk_rounds-loop-turns
+decreases-walk_rounds-loop-turns l = l.turns
+
+-- ---- a stretch
+abbrev pub invariant-walk_stretch-loop-turns : goal.invariant-walk_stretch-loop-turns
+invariant-walk_stretch-loop-turns l = (lay most_entries (row_step meeting l.table l.l l.from l.width (beside (spot l.part l.place) (spot l.other l.there))) l.ones l.others l.count l.initial.list ≡ lay most_entries (row_step meeting l.table l.l l.child l.turns (beside (spot l.rest l.at) (spot l.left l.by))) l.made l.more l.pairs l.list)
+  × Falls l.table l.child l.turns l.node
+  × (l.at + length l.rest ≡ l.place + length l.part)
+  × (l.by + length l.left ≡ l.there + length l.other)
+  × (l.pairs ≤ l.made)
+  × (length l.list ≡ length l.initial.list)
+
+abbrev pub decreases-walk_stretch-loop-turns : goal.decreases-walk_stretch-loop-turns
+decreases-walk_stretch-loop-turns l = l.turns

@@ -42,6 +42,7 @@ fn write_again(
 // ---- read strictly
 
 // Where an entry's own bytes end: where the next one's begin, or else where the reading ended.
+#[tactic(auto, unfolding(wire::specs::Answers::room_of))]
 fn own_end(words: &[u64], at: usize, end: usize) -> usize {
     let count = entry::room(words.len());
     if at < count {

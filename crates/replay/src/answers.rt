@@ -88,6 +88,7 @@ pub fn tells(record: &[u8], told: Told) -> bool {
 
 // ---- reading
 
+#[tactic(auto, unfolding(wire::specs::Answers::read_says, wire::specs::Answers::done, wire::specs::Answers::numbered, crate::specs::Told::made))]
 fn read_told(answer: ReadAnswer) -> Told
     ensures { Tells (read_says answer) (made answer) result }
 {
@@ -130,6 +131,7 @@ fn read_over(strict: bool, record: &[u8], store: &mut [u64], then: &mut [u64]) -
     reader::rest(message, answer) == field::part(record, 7)
 }
 
+#[tactic(auto, unfolding(desk::specs::Listed::open_says, desk::specs::Listed::open_count, wire::specs::Answers::done, wire::specs::Answers::numbered))]
 fn open_told(answer: OpenAnswer) -> Told
     ensures { Tells (open_says answer) (open_count answer) result }
 {
@@ -219,6 +221,7 @@ fn read_agrees(strict: bool, record: &[u8]) -> bool {
 
 // ---- writing
 
+#[tactic(auto, unfolding(wire::specs::Answers::write_says, wire::specs::Answers::done, wire::specs::Answers::numbered))]
 fn write_told(answer: WriteAnswer) -> Told
     ensures { Tells (write_says answer) 0 result }
 {
@@ -272,6 +275,7 @@ fn write_agrees(record: &[u8]) -> bool {
 
 // ---- the append question
 
+#[tactic(auto, unfolding(wire::specs::Answers::ask_says, wire::specs::Answers::done, wire::specs::Answers::numbered, crate::specs::Told::which))]
 fn ask_told(answer: AskAnswer) -> Told
     ensures { Tells (ask_says answer) (which answer) result }
 {
@@ -302,10 +306,8 @@ fn work_area() -> [u8; append::AREA + BEHIND] {
 // Whether all bytes are the same.
 fn is_all(part: &[u8], byte: u8) -> bool {
     let mut others = 0u8;
-    let mut i = 0;
-    while i < part.len() {
-        others = others | (part[i] ^ byte);
-        i = i + 1;
+    for own in part {
+        others = others | (*own ^ byte);
     }
     others == 0
 }
@@ -414,6 +416,7 @@ fn bridge_agrees(record: &[u8]) -> bool {
 
 // ---- taking an item
 
+#[tactic(auto, unfolding(wire::specs::Answers::take_says, wire::specs::Answers::done, wire::specs::Answers::numbered))]
 fn take_told(answer: TakeAnswer, behind: usize) -> Told
     ensures { Tells (take_says answer) behind result }
 {
@@ -475,6 +478,7 @@ fn take_agrees(record: &[u8]) -> bool {
 
 // ---- finding an item
 
+#[tactic(auto, unfolding(desk::specs::Path::find_says, desk::specs::Path::first_of, wire::specs::Answers::done, wire::specs::Answers::numbered))]
 fn find_told(answer: FindAnswer) -> Told
     ensures { Tells (find_says answer) (first_of answer) result }
 {
@@ -506,6 +510,7 @@ fn find_told(answer: FindAnswer) -> Told
     }
 }
 
+#[tactic(auto, unfolding(desk::specs::Path::second_of))]
 fn second_of(answer: FindAnswer) -> u64
     ensures { result ≡ second_of answer }
 {
@@ -547,6 +552,7 @@ fn find_agrees(record: &[u8]) -> bool {
 
 // ---- two messages side by side
 
+#[tactic(auto, unfolding(desk::specs::Differ::compare_says, crate::specs::Told::pairs_or_which, wire::specs::Answers::done, wire::specs::Answers::numbered))]
 fn compare_told(answer: CompareAnswer) -> Told
     ensures { Tells (compare_says answer) (pairs_or_which answer) result }
 {

@@ -7,6 +7,7 @@ use crate::answers::Told;
 use desk::CsvAnswer;
 use recorded::{field, memory};
 
+#[tactic(auto, unfolding(desk::specs::Csv::csv_says, wire::specs::Answers::done, wire::specs::Answers::numbered))]
 fn row_told(answer: CsvAnswer) -> Told
     ensures { Tells (csv_says answer) 0 result }
 {

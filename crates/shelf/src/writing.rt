@@ -21,14 +21,12 @@ fn first_word(bytes: &[u8]) -> u64
 // Puts the whole words of a file in front.
 fn put_words(bytes: &[u8], words: &mut [u64]) {
     let mut rest = bytes;
-    let mut i = 0;
-    while i < words.len() {
+    for word in words.iter_mut() {
         if rest.len() < 8 {
             return;
         }
-        words[i] = first_word(rest);
+        *word = first_word(rest);
         rest = &rest[8..];
-        i += 1;
     }
 }
 

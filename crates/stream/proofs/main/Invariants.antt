@@ -1,5 +1,5 @@
 -- Each chunk ends behind where it starts, and the state has room for what it keeps.
-use Rattle.std.proofs.Common.{length, ◌≤◌, ◌-◌}
+use Rattle.std.proofs.Common.{◌≤◌, ◌-◌}
 use Rattle.wire.specs.Frames.{room}
 use Rattle.stream.proofs.main.Given as goal
 

@@ -91,12 +91,20 @@ walk_item-returns-in_default t c = let p = c.requires in
     gives-stopped (leaf-unread p.good_table p.node_lt_nodes _ _ _ _ c.kind_at-number.ensures (not-inner _ (sym c.is_inner.ensures ∙ c.if-is_inner.false)) _ _ _ _ _ c.take_leaf-taken.ensures c.in_default.is)
 
 pub walk_item-overflow_add-after : goal.walk_item-overflow_add-after
-walk_item-overflow_add-after t c = omega (arith, (let item-inside : (c.in-Both.used ≤ length c.args.part.now) × (c.in-Both.beyond ≤ length c.args.other.now) = let p = c.requires.1 in
-    leaf-inside p.0 p.1.0 _ _ _ _ c.kind_at-number.ensures (not-inner _ (sym c.is_inner.ensures ∙ c.if-is_inner.false)) c.take_leaf-taken.ensures c.in-Both.is in item-inside).0, c.requires.part_bound)
+walk_item-overflow_add-after t c = omega (
+  arith,
+  (let item-inside : (c.in-Both.used ≤ length c.args.part.now) × (c.in-Both.beyond ≤ length c.args.other.now) = let p = c.requires.1 in
+      leaf-inside p.0 p.1.0 _ _ _ _ c.kind_at-number.ensures (not-inner _ (sym c.is_inner.ensures ∙ c.if-is_inner.false)) c.take_leaf-taken.ensures c.in-Both.is in item-inside).0,
+  c.requires.part_bound,
+)
 
 pub walk_item-overflow_add-behind : goal.walk_item-overflow_add-behind
-walk_item-overflow_add-behind t c = omega (arith, (let item-inside : (c.in-Both.used ≤ length c.args.part.now) × (c.in-Both.beyond ≤ length c.args.other.now) = let p = c.requires.1 in
-    leaf-inside p.0 p.1.0 _ _ _ _ c.kind_at-number.ensures (not-inner _ (sym c.is_inner.ensures ∙ c.if-is_inner.false)) c.take_leaf-taken.ensures c.in-Both.is in item-inside).1, c.requires.other_bound)
+walk_item-overflow_add-behind t c = omega (
+  arith,
+  (let item-inside : (c.in-Both.used ≤ length c.args.part.now) × (c.in-Both.beyond ≤ length c.args.other.now) = let p = c.requires.1 in
+      leaf-inside p.0 p.1.0 _ _ _ _ c.kind_at-number.ensures (not-inner _ (sym c.is_inner.ensures ∙ c.if-is_inner.false)) c.take_leaf-taken.ensures c.in-Both.is in item-inside).1,
+  c.requires.other_bound,
+)
 
 pub walk_item-returns-then-same : goal.walk_item-returns-then-same
 walk_item-returns-then-same t c = let p = c.requires in
@@ -123,20 +131,20 @@ walk_rounds-returns-in_default-got t c = turn-apart _ _ _ (row_kept _ _ _ _) _ _
 
 pub walk_rounds-loop-turns-preserved : goal.walk_rounds-loop-turns-preserved
 walk_rounds-loop-turns-preserved t c = (
-      (turned _ _ _ (row_kept _ _ _ _) _ _ _ _ _ _ _ _ _
-          (begun-at _ _ _ _ _ _ _ _ _ _ _ c.begin-begun.ensures (rounds-turn _ _ _ _ _ _ _ _ _ _ _ _ _ _ c.loop-turns.invariant.0 c.loop-turns-test.true) c.in-At.is)
-          c.walk_stretch-got.ensures (begun-few c.begin-begun.ensures c.in-At.is c.loop-turns.invariant.3) c.in-Both.is).1,
-      (let rounds-went : Arrived c.loop-turns.rest.now c.loop-turns.at c.loop-turns.left.now c.loop-turns.by c.in-Both.one c.in-Both.beyond c.in-Both.first c.in-Both.so_far = (turned _ _ _ (row_kept _ _ _ _) _ _ _ _ _ _ _ _ _
-    (begun-at _ _ _ _ _ _ _ _ _ _ _ c.begin-begun.ensures (rounds-turn _ _ _ _ _ _ _ _ _ _ _ _ _ _ c.loop-turns.invariant.0 c.loop-turns-test.true) c.in-At.is)
-    c.walk_stretch-got.ensures (begun-few c.begin-begun.ensures c.in-At.is c.loop-turns.invariant.3) c.in-Both.is).0 in rounds-went).one.auto ∙ c.loop-turns.invariant.1,
-      (let rounds-went : Arrived c.loop-turns.rest.now c.loop-turns.at c.loop-turns.left.now c.loop-turns.by c.in-Both.one c.in-Both.beyond c.in-Both.first c.in-Both.so_far = (turned _ _ _ (row_kept _ _ _ _) _ _ _ _ _ _ _ _ _
-    (begun-at _ _ _ _ _ _ _ _ _ _ _ c.begin-begun.ensures (rounds-turn _ _ _ _ _ _ _ _ _ _ _ _ _ _ c.loop-turns.invariant.0 c.loop-turns-test.true) c.in-At.is)
-    c.walk_stretch-got.ensures (begun-few c.begin-begun.ensures c.in-At.is c.loop-turns.invariant.3) c.in-Both.is).0 in rounds-went).other.auto ∙ c.loop-turns.invariant.2,
-      (let rounds-went : Arrived c.loop-turns.rest.now c.loop-turns.at c.loop-turns.left.now c.loop-turns.by c.in-Both.one c.in-Both.beyond c.in-Both.first c.in-Both.so_far = (turned _ _ _ (row_kept _ _ _ _) _ _ _ _ _ _ _ _ _
-    (begun-at _ _ _ _ _ _ _ _ _ _ _ c.begin-begun.ensures (rounds-turn _ _ _ _ _ _ _ _ _ _ _ _ _ _ c.loop-turns.invariant.0 c.loop-turns-test.true) c.in-At.is)
-    c.walk_stretch-got.ensures (begun-few c.begin-begun.ensures c.in-At.is c.loop-turns.invariant.3) c.in-Both.is).0 in rounds-went).few,
-      c.walk_stretch-got.auto.1.1.1.1.1.1.1.1.1.1.1.0 ∙ c.loop-turns.invariant.4,
-    )
+  (turned _ _ _ (row_kept _ _ _ _) _ _ _ _ _ _ _ _ _
+      (begun-at _ _ _ _ _ _ _ _ _ _ _ c.begin-begun.ensures (rounds-turn _ _ _ _ _ _ _ _ _ _ _ _ _ _ c.loop-turns.invariant.0 c.loop-turns-test.true) c.in-At.is)
+      c.walk_stretch-got.ensures (begun-few c.begin-begun.ensures c.in-At.is c.loop-turns.invariant.3) c.in-Both.is).1,
+  (let rounds-went : Arrived c.loop-turns.rest.now c.loop-turns.at c.loop-turns.left.now c.loop-turns.by c.in-Both.one c.in-Both.beyond c.in-Both.first c.in-Both.so_far = (turned _ _ _ (row_kept _ _ _ _) _ _ _ _ _ _ _ _ _
+      (begun-at _ _ _ _ _ _ _ _ _ _ _ c.begin-begun.ensures (rounds-turn _ _ _ _ _ _ _ _ _ _ _ _ _ _ c.loop-turns.invariant.0 c.loop-turns-test.true) c.in-At.is)
+      c.walk_stretch-got.ensures (begun-few c.begin-begun.ensures c.in-At.is c.loop-turns.invariant.3) c.in-Both.is).0 in rounds-went).one.auto ∙ c.loop-turns.invariant.1,
+  (let rounds-went : Arrived c.loop-turns.rest.now c.loop-turns.at c.loop-turns.left.now c.loop-turns.by c.in-Both.one c.in-Both.beyond c.in-Both.first c.in-Both.so_far = (turned _ _ _ (row_kept _ _ _ _) _ _ _ _ _ _ _ _ _
+      (begun-at _ _ _ _ _ _ _ _ _ _ _ c.begin-begun.ensures (rounds-turn _ _ _ _ _ _ _ _ _ _ _ _ _ _ c.loop-turns.invariant.0 c.loop-turns-test.true) c.in-At.is)
+      c.walk_stretch-got.ensures (begun-few c.begin-begun.ensures c.in-At.is c.loop-turns.invariant.3) c.in-Both.is).0 in rounds-went).other.auto ∙ c.loop-turns.invariant.2,
+  (let rounds-went : Arrived c.loop-turns.rest.now c.loop-turns.at c.loop-turns.left.now c.loop-turns.by c.in-Both.one c.in-Both.beyond c.in-Both.first c.in-Both.so_far = (turned _ _ _ (row_kept _ _ _ _) _ _ _ _ _ _ _ _ _
+      (begun-at _ _ _ _ _ _ _ _ _ _ _ c.begin-begun.ensures (rounds-turn _ _ _ _ _ _ _ _ _ _ _ _ _ _ c.loop-turns.invariant.0 c.loop-turns-test.true) c.in-At.is)
+      c.walk_stretch-got.ensures (begun-few c.begin-begun.ensures c.in-At.is c.loop-turns.invariant.3) c.in-Both.is).0 in rounds-went).few,
+  c.walk_stretch-got.auto.list ∙ c.loop-turns.invariant.4,
+)
 
 pub walk_rounds-returns : goal.walk_rounds-returns
 walk_rounds-returns t c = rounds-done _ _ _ _ _ _ _ _ _ _ _ _ _ _ c.loop-turns.invariant.0 c.loop-turns-test.false
@@ -152,17 +160,23 @@ walk_stretch-returns-in_default t c = turn-apart _ _ _ (node_kept _ _ _) _ _ _ _
 
 pub walk_stretch-loop-turns-preserved : goal.walk_stretch-loop-turns-preserved
 walk_stretch-loop-turns-preserved t c = (
-      (turned _ _ _ (node_kept _ _ _) _ _ _ _ _ _ _ _ _
-          (row-turn _ _ _ _ _ _ _ _ _ _ _ _ c.loop-turns.invariant.0 c.loop-turns-test.true _ c.u16_at-c.ensures.0) c.walk_item-got.ensures c.loop-turns.invariant.4 c.in-Both.is).1,
-      falls-next c.loop-turns.invariant.1 c.loop-turns-test.true,
-      omega (arith, (let stretch-went : Arrived c.loop-turns.rest.now c.loop-turns.at c.loop-turns.left.now c.loop-turns.by c.in-Both.one c.in-Both.beyond c.in-Both.first c.in-Both.so_far = (turned _ _ _ (node_kept _ _ _) _ _ _ _ _ _ _ _ _
-    (row-turn _ _ _ _ _ _ _ _ _ _ _ _ c.loop-turns.invariant.0 c.loop-turns-test.true _ c.u16_at-c.ensures.0) c.walk_item-got.ensures c.loop-turns.invariant.4 c.in-Both.is).0 in stretch-went).one.auto),
-      omega (arith, (let stretch-went : Arrived c.loop-turns.rest.now c.loop-turns.at c.loop-turns.left.now c.loop-turns.by c.in-Both.one c.in-Both.beyond c.in-Both.first c.in-Both.so_far = (turned _ _ _ (node_kept _ _ _) _ _ _ _ _ _ _ _ _
-    (row-turn _ _ _ _ _ _ _ _ _ _ _ _ c.loop-turns.invariant.0 c.loop-turns-test.true _ c.u16_at-c.ensures.0) c.walk_item-got.ensures c.loop-turns.invariant.4 c.in-Both.is).0 in stretch-went).other.auto),
-      (let stretch-went : Arrived c.loop-turns.rest.now c.loop-turns.at c.loop-turns.left.now c.loop-turns.by c.in-Both.one c.in-Both.beyond c.in-Both.first c.in-Both.so_far = (turned _ _ _ (node_kept _ _ _) _ _ _ _ _ _ _ _ _
-    (row-turn _ _ _ _ _ _ _ _ _ _ _ _ c.loop-turns.invariant.0 c.loop-turns-test.true _ c.u16_at-c.ensures.0) c.walk_item-got.ensures c.loop-turns.invariant.4 c.in-Both.is).0 in stretch-went).few,
-      c.walk_item-got.auto.1.1.1.1.1.1.1.1.1.0 ∙ c.loop-turns.invariant.5,
-    )
+  (turned _ _ _ (node_kept _ _ _) _ _ _ _ _ _ _ _ _
+      (row-turn _ _ _ _ _ _ _ _ _ _ _ _ c.loop-turns.invariant.0 c.loop-turns-test.true _ c.u16_at-c.ensures.0) c.walk_item-got.ensures c.loop-turns.invariant.4 c.in-Both.is).1,
+  falls-next c.loop-turns.invariant.1 c.loop-turns-test.true,
+  omega (
+    arith,
+    (let stretch-went : Arrived c.loop-turns.rest.now c.loop-turns.at c.loop-turns.left.now c.loop-turns.by c.in-Both.one c.in-Both.beyond c.in-Both.first c.in-Both.so_far = (turned _ _ _ (node_kept _ _ _) _ _ _ _ _ _ _ _ _
+        (row-turn _ _ _ _ _ _ _ _ _ _ _ _ c.loop-turns.invariant.0 c.loop-turns-test.true _ c.u16_at-c.ensures.0) c.walk_item-got.ensures c.loop-turns.invariant.4 c.in-Both.is).0 in stretch-went).one.auto,
+  ),
+  omega (
+    arith,
+    (let stretch-went : Arrived c.loop-turns.rest.now c.loop-turns.at c.loop-turns.left.now c.loop-turns.by c.in-Both.one c.in-Both.beyond c.in-Both.first c.in-Both.so_far = (turned _ _ _ (node_kept _ _ _) _ _ _ _ _ _ _ _ _
+        (row-turn _ _ _ _ _ _ _ _ _ _ _ _ c.loop-turns.invariant.0 c.loop-turns-test.true _ c.u16_at-c.ensures.0) c.walk_item-got.ensures c.loop-turns.invariant.4 c.in-Both.is).0 in stretch-went).other.auto,
+  ),
+  (let stretch-went : Arrived c.loop-turns.rest.now c.loop-turns.at c.loop-turns.left.now c.loop-turns.by c.in-Both.one c.in-Both.beyond c.in-Both.first c.in-Both.so_far = (turned _ _ _ (node_kept _ _ _) _ _ _ _ _ _ _ _ _
+      (row-turn _ _ _ _ _ _ _ _ _ _ _ _ c.loop-turns.invariant.0 c.loop-turns-test.true _ c.u16_at-c.ensures.0) c.walk_item-got.ensures c.loop-turns.invariant.4 c.in-Both.is).0 in stretch-went).few,
+  c.walk_item-got.auto.list ∙ c.loop-turns.invariant.5,
+)
 
 pub walk_stretch-returns : goal.walk_stretch-returns
 walk_stretch-returns t c = row_done _ _ _ _ _ _ _ _ _ _ _ _ c.loop-turns.invariant.0 c.loop-turns-test.false

@@ -189,6 +189,10 @@ pub second-of : {A B : Type 0} → A ⊎ B → (A → ⊥) → B
 second-of (inl a) h = absurd (h a)
 second-of (inr b) h = b
 
+by-plain : (k : ℕ) (w : Width) (g : Sign) → kind_of k ≡ plain (int g w) → (s : List ℕ) → on_first (unzigzagged g) (varint w s) ≡ head (kind_of k) 0 0 s
+unfolding head read_plain
+by-plain k w g f s = rw f
+
 pub varints-taken : (k : ℕ) → IsInt k → (w : Width) → ((k ≡ signed_number w → ⊥) → k ≡ signed_number w + 4) → (s t : List ℕ) {i j : Item} {r : Taken} → r ≡ taken_numbers i j → i ≡ varint w s → j ≡ varint w t
     → r ≡ taken_both (kind_of k) s t (head (kind_of k) 0 0 s) (head (kind_of k) 0 0 t)
 unfolding signed_number
@@ -205,7 +209,7 @@ varints-taken k h w other s t {r = r} e p q = by-eq k (signed_number w) (λ f. g
     u-kind w64 k e = unfold kind_of kinds in rw e
 
     go : (g : Sign) → kind_of k ≡ plain (int g w) → r ≡ taken_both (kind_of k) s t (head (kind_of k) 0 0 s) (head (kind_of k) 0 0 t)
-    go g f = ints-taken k h s t (e ∙ ap₂ taken_numbers p q ∙ zigzag-taken w g s t) (unfold head read_plain in rw f) (unfold head read_plain in rw f)
+    go g f = ints-taken k h s t (e ∙ ap₂ taken_numbers p q ∙ zigzag-taken w g s t) (by-plain k w g f s) (by-plain k w g f t)
 
 -- an integer's number that is none of the first seven, one after the other
 above : (k n : ℕ) → n ≤ k → (k ≡ n → ⊥) → suc n ≤ k

@@ -34,7 +34,7 @@ use Rattle.open.proofs.Chains.{chain_left, chain-closed, chain-leaving}
 use Rattle.open.proofs.Pending.{pending-close, pending-round, begun-pending, pending-child}
 
 -- entries are only added
-begins-more : {room p : ℕ} {b : Bool} {st st' : List ℕ} {m k : ℕ} {r : Begun} → Begins room p b st m r st' → r ≡ At k → m ≤ k
+begins-more : {room p : ℕ} {b : Bool} {st : List ℕ} {m : ℕ} {st' : List ℕ} {k : ℕ} {r : Begun} → Begins room p b st m r st' → r ≡ At k → m ≤ k
 begins-more {k = k} (bare {m = m}) e = let c : m ≡ k = cc in omega arith
 begins-more {k = k} (put {m = m} x) e = let c : m + 1 ≡ k = cc in omega arith
 begins-more (crowded x) e = let z : ◌≡◌ {A = ℕ} 0 1 = cc in absurd (omega arith)

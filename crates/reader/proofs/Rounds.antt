@@ -39,12 +39,12 @@ module _ {h : Head} (sound : Sound h) (n : ℕ) (f g : Spot → Run) where
       go es (refused e p) = unfold read_on run_after in refl
 
   module _ (room : ℕ) (w : Left) (bs : List ℕ) (at : ℕ) where
-    pub begun-full : {b : Bool} {s st : List ℕ} {m : ℕ} {r : Begun} → Begins room at b s m r st → w ≡ lay room (read_then (under (reading h) b n f) g (spot bs at)) m s → r ≡ Full → Gives w (Refused Room at m) st
+    pub begun-full : {b : Bool} {s : List ℕ} {m : ℕ} {st : List ℕ} {r : Begun} → Begins room at b s m r st → w ≡ lay room (read_then (under (reading h) b n f) g (spot bs at)) m s → r ≡ Full → Gives w (Refused Room at m) st
     begun-full bare q e = let z : ◌≡◌ {A = ℕ} 0 1 = cc in absurd (omega arith)
     begun-full (put l) q e = let z : ◌≡◌ {A = ℕ} 0 1 = cc in absurd (omega arith)
     begun-full (full {s} {m} l) q e = gives-refused (q ∙ rw (then-headed (spot bs at)) (lay-full room m s (struct_at at) (read_then f g (spot bs at)) l))
 
-    pub begun-at : {b : Bool} {s st : List ℕ} {m k : ℕ} {r : Begun} → Begins room at b s m r st → w ≡ lay room (read_then (under (reading h) b n f) g (spot bs at)) m s → r ≡ At k
+    pub begun-at : {b : Bool} {s : List ℕ} {m : ℕ} {st : List ℕ} {k : ℕ} {r : Begun} → Begins room at b s m r st → w ≡ lay room (read_then (under (reading h) b n f) g (spot bs at)) m s → r ≡ At k
         → w ≡ lay room (read_then f g (spot bs at)) k st
     unfolding under with_entry
     begun-at {k} (bare {s} {m}) q e = let c : m ≡ k = cc in rw (← c) q

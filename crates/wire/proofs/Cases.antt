@@ -1,6 +1,6 @@
 -- Each case holds by computing both sides.
 -- Assumes nothing.
-use mathlib.Core.Path.{◌≡◌, refl}
+use mathlib.Core.Path.{refl}
 use Rattle.wire.specs.Tests.{pick, given, both, decided}
 use Rattle.wire.specs.Shape.{bits, size, same_kind, count, depth, deepest}
 use Rattle.wire.specs.Table.{u16_at, u32_at, size_of, mark_of, most_nodes, most_bytes, table_form, ending_at, layout_at, good_numbers, good_trailer, kinds, is_kind, kind_of, node_at, record_of, first_child, child_count, below, good_places, good_kind, good_node, shapes_at, shape_by, shape_f, shape_of, chain_of, short_chain, good_in, check_from, check_at, check_as, check}

@@ -26,7 +26,7 @@ use Rattle.wire.specs.Table.{is_kind, kind_of, check, shape_of}
 use Rattle.wire.specs.Values.{Entry}
 use Rattle.wire.specs.Walk.{walk}
 use Rattle.wire.specs.Reading.{head, head_by, front, Outcome, reached, refused, Run, reading, fit}
-use Rattle.wire.specs.Writing.{Left, Wrote, wrote, misfit, write}
+use Rattle.wire.specs.Writing.{Wrote, wrote, misfit, write}
 use Rattle.wire.specs.Append.{appends}
 
 -- ---- document 01's numbers

@@ -12,10 +12,10 @@ use Rattle.wire.specs.declared.TakeAnswer.TheVariants.{Done as Taken, Refused as
 use Rattle.wire.specs.declared.AskAnswer.{AskAnswer}
 use Rattle.wire.specs.declared.AskAnswer.TheVariants.{Says, Refused as NotAsked, ShortArea}
 use Rattle.wire.specs.Table.{first, second, good_trailer, short_chain, check, shape_of}
-use Rattle.wire.specs.Values.{Value, number, content, Valued, whole, too_short, unknown, values}
+use Rattle.wire.specs.Values.{number, content, Valued, whole, too_short, unknown, values}
 use Rattle.wire.specs.Reading.{Run}
 use Rattle.wire.specs.Frames.{Fed, Marked, rule, old_rule, decode_by, feed_by, feed_bridge, feed}
-use Rattle.wire.specs.Answers.{refusal_number, feed_number, Numbered, read_says, write_says, ask_says, entries_of, store_with, reads, reads_strict, read_answer, rest_of, takes, place_after, Form, writes, write_answer, out_with, asks_with, area_after, zeroed}
+use Rattle.wire.specs.Answers.{refusal_number, feed_number, read_says, write_says, ask_says, entries_of, store_with, reads, reads_strict, read_answer, rest_of, takes, place_after, Form, writes, write_answer, out_with, asks_with, area_after, zeroed}
 
 -- ---- calls and answers
 

@@ -31,7 +31,6 @@ returns-in-5 c = let e = c.in-5.is in
 
 pub returns-in_default : goal.returns-in_default
 unfolding signed_number most last
-returns-in_default c = let m = (λ e. omega arith) in
+returns-in_default c =
     let p = c.requires in
-    varints-taken _ p w64 (λ e. eighth _ p m.0.1 (λ z. m.0.0.0.1 (inl z)) (λ z. m.0.0.1 (inl z)) e m.1 (λ z. m.0.0.0.1 (inr z)) (λ z. m.0.0.1 (inr z)))
-    _ _ c.both-in_default.ensures (c.take.ensures ∙ at_width w64 _) (c.take-in_default.ensures ∙ at_width w64 _)
+    varints-taken _ p w64 (λ e. grind (arith, p.0, p.1, e)) _ _ c.both-in_default.ensures (c.take.ensures ∙ at_width w64 _) (c.take-in_default.ensures ∙ at_width w64 _)

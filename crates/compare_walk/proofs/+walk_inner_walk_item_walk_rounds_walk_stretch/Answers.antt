@@ -24,10 +24,10 @@ pub walk_inner-returns-in_default : goal.walk_inner-returns-in_default
 walk_inner-returns-in_default t c = let p = c.requires in gives-stopped (entered-unread p.good_table p.node_lt_nodes _ _ _ _ _ _ _ c.enter-entered.ensures c.in_default.is)
 
 pub walk_inner-overflow_add-after : goal.walk_inner-overflow_add-after
-walk_inner-overflow_add-after t c = omega (arith, (let inner-one : c.in-On.used ≤ length c.args.part.now = let p = c.requires.1 in one_inside p.0 p.1.0 _ _ (entered_on p.0 p.1.0 _ _ c.enter-entered.ensures c.in-On.is) in inner-one), c.requires.part_bound)
+walk_inner-overflow_add-after t c = omega (arith, (let inner-one : c.in-On.used ≤ length c.args.part.now = let p = c.requires in one_inside p.good_table p.node_lt_nodes _ _ (entered_on p.good_table p.node_lt_nodes _ _ c.enter-entered.ensures c.in-On.is) in inner-one), c.requires.part_bound)
 
 pub walk_inner-overflow_add-beyond : goal.walk_inner-overflow_add-beyond
-walk_inner-overflow_add-beyond t c = omega (arith, (let inner-other : c.in-On.past ≤ length c.args.other.now = let p = c.requires.1 in other-inside p.0 p.1.0 _ _ (entered_on p.0 p.1.0 _ _ c.enter-entered.ensures c.in-On.is) in inner-other), c.requires.other_bound)
+walk_inner-overflow_add-beyond t c = omega (arith, (let inner-other : c.in-On.past ≤ length c.args.other.now = let p = c.requires in other-inside p.good_table p.node_lt_nodes _ _ (entered_on p.good_table p.node_lt_nodes _ _ c.enter-entered.ensures c.in-On.is) in inner-other), c.requires.other_bound)
 
 pub walk_inner-overflow_add-next : goal.walk_inner-overflow_add-next
 walk_inner-overflow_add-next t c = omega (arith, c.requires.ones_lt_most_entries.0)
@@ -37,6 +37,30 @@ walk_inner-overflow_add-more t c = omega (arith, c.requires.ones_lt_most_entries
 
 pub walk_inner-flat-way-requires : goal.walk_inner-flat-way-requires
 walk_inner-flat-way-requires t c = let p = c.requires in record { good_table = p.good_table; node_le_nodes = omega (arith, p.node_lt_nodes); falls = one-falls p.good_table p.node_lt_nodes _ _ (entered_on p.good_table p.node_lt_nodes _ _ c.enter-entered.ensures c.in-On.is) }
+
+pub walk_inner-slice_bounds-walk_rounds-count : goal.walk_inner-slice_bounds-walk_rounds-count
+walk_inner-slice_bounds-walk_rounds-count t c = let p = c.requires in one_inside p.good_table p.node_lt_nodes _ _ (entered_on p.good_table p.node_lt_nodes _ _ c.enter-entered.ensures c.in-On.is)
+
+pub walk_inner-slice_bounds-walk_rounds-start : goal.walk_inner-slice_bounds-walk_rounds-start
+walk_inner-slice_bounds-walk_rounds-start t c = let p = c.requires in one_inside p.good_table p.node_lt_nodes _ _ (entered_on p.good_table p.node_lt_nodes _ _ c.enter-entered.ensures c.in-On.is)
+
+pub walk_inner-slice_bounds-walk_rounds-count-then-same : goal.walk_inner-slice_bounds-walk_rounds-count-then-same
+walk_inner-slice_bounds-walk_rounds-count-then-same t c = let p = c.requires in other-inside p.good_table p.node_lt_nodes _ _ (entered_on p.good_table p.node_lt_nodes _ _ c.enter-entered.ensures c.in-On.is)
+
+pub walk_inner-slice_bounds-walk_rounds-start-then-same : goal.walk_inner-slice_bounds-walk_rounds-start-then-same
+walk_inner-slice_bounds-walk_rounds-start-then-same t c = let p = c.requires in other-inside p.good_table p.node_lt_nodes _ _ (entered_on p.good_table p.node_lt_nodes _ _ c.enter-entered.ensures c.in-On.is)
+
+pub walk_inner-slice_bounds-pass-count : goal.walk_inner-slice_bounds-pass-count
+walk_inner-slice_bounds-pass-count t c = let p = c.requires in one_inside p.good_table p.node_lt_nodes _ _ (entered_on p.good_table p.node_lt_nodes _ _ c.enter-entered.ensures c.in-On.is)
+
+pub walk_inner-slice_bounds-pass-start : goal.walk_inner-slice_bounds-pass-start
+walk_inner-slice_bounds-pass-start t c = let p = c.requires in one_inside p.good_table p.node_lt_nodes _ _ (entered_on p.good_table p.node_lt_nodes _ _ c.enter-entered.ensures c.in-On.is)
+
+pub walk_inner-slice_bounds-pass-count-2 : goal.walk_inner-slice_bounds-pass-count-2
+walk_inner-slice_bounds-pass-count-2 t c = let p = c.requires in other-inside p.good_table p.node_lt_nodes _ _ (entered_on p.good_table p.node_lt_nodes _ _ c.enter-entered.ensures c.in-On.is)
+
+pub walk_inner-slice_bounds-pass-start-2 : goal.walk_inner-slice_bounds-pass-start-2
+walk_inner-slice_bounds-pass-start-2 t c = let p = c.requires in other-inside p.good_table p.node_lt_nodes _ _ (entered_on p.good_table p.node_lt_nodes _ _ c.enter-entered.ensures c.in-On.is)
 
 pub walk_inner-walk_rounds-requires : goal.walk_inner-walk_rounds-requires
 walk_inner-walk_rounds-requires t c = let p = c.requires in
@@ -49,8 +73,8 @@ walk_inner-walk_rounds-requires t c = let p = c.requires in
           (
             flat-falls p.good_table (omega (arith, p.node_lt_nodes)) c.flat-way.ensures,
             (
-              omega (arith, (let inner-one : c.in-On.used ≤ length c.args.part.now = let p = c.requires.1 in one_inside p.0 p.1.0 _ _ (entered_on p.0 p.1.0 _ _ c.enter-entered.ensures c.in-On.is) in inner-one), p.part_bound, length-tail c.args.part.now c.in-On.used),
-              (omega (arith, (let inner-other : c.in-On.past ≤ length c.args.other.now = let p = c.requires.1 in other-inside p.0 p.1.0 _ _ (entered_on p.0 p.1.0 _ _ c.enter-entered.ensures c.in-On.is) in inner-other), p.other_bound, length-tail c.args.other.now c.in-On.past), omega (arith, p.count_le_ones)),
+              omega (arith, (let inner-one : c.in-On.used ≤ length c.args.part.now = let p = c.requires in one_inside p.good_table p.node_lt_nodes _ _ (entered_on p.good_table p.node_lt_nodes _ _ c.enter-entered.ensures c.in-On.is) in inner-one), p.part_bound, length-tail c.args.part.now c.in-On.used),
+              (omega (arith, (let inner-other : c.in-On.past ≤ length c.args.other.now = let p = c.requires in other-inside p.good_table p.node_lt_nodes _ _ (entered_on p.good_table p.node_lt_nodes _ _ c.enter-entered.ensures c.in-On.is) in inner-other), p.other_bound, length-tail c.args.other.now c.in-On.past), omega (arith, p.count_le_ones)),
             ),
           ),
         ),
@@ -64,7 +88,7 @@ walk_inner-returns-then-same t c = let p = c.requires in
 
 pub walk_inner-pass-requires : goal.walk_inner-pass-requires
 walk_inner-pass-requires t c = let p = c.requires in
-    let e = entered_on p.good_table p.node_lt_nodes _ _ c.enter-entered.ensures c.in-On.is in record { good_table = p.good_table; node_le_nodes = omega (arith, p.node_lt_nodes); falls = one-falls p.good_table p.node_lt_nodes _ _ e; falls_2 = other-falls p.good_table p.node_lt_nodes _ _ e; part_bound = omega (arith, (let inner-one : c.in-On.used ≤ length c.args.part.now = let p = c.requires.1 in one_inside p.0 p.1.0 _ _ (entered_on p.0 p.1.0 _ _ c.enter-entered.ensures c.in-On.is) in inner-one), p.part_bound, length-tail c.args.part.now c.in-On.used); other_bound = omega (arith, (let inner-other : c.in-On.past ≤ length c.args.other.now = let p = c.requires.1 in other-inside p.0 p.1.0 _ _ (entered_on p.0 p.1.0 _ _ c.enter-entered.ensures c.in-On.is) in inner-other), p.other_bound, length-tail c.args.other.now c.in-On.past) }
+    let e = entered_on p.good_table p.node_lt_nodes _ _ c.enter-entered.ensures c.in-On.is in record { good_table = p.good_table; node_le_nodes = omega (arith, p.node_lt_nodes); falls = one-falls p.good_table p.node_lt_nodes _ _ e; falls_2 = other-falls p.good_table p.node_lt_nodes _ _ e; part_bound = omega (arith, (let inner-one : c.in-On.used ≤ length c.args.part.now = let p = c.requires in one_inside p.good_table p.node_lt_nodes _ _ (entered_on p.good_table p.node_lt_nodes _ _ c.enter-entered.ensures c.in-On.is) in inner-one), p.part_bound, length-tail c.args.part.now c.in-On.used); other_bound = omega (arith, (let inner-other : c.in-On.past ≤ length c.args.other.now = let p = c.requires in other-inside p.good_table p.node_lt_nodes _ _ (entered_on p.good_table p.node_lt_nodes _ _ c.enter-entered.ensures c.in-On.is) in inner-other), p.other_bound, length-tail c.args.other.now c.in-On.past) }
 
 pub walk_inner-returns : goal.walk_inner-returns
 walk_inner-returns t c = let p = c.requires in
@@ -91,12 +115,20 @@ walk_item-returns-in_default t c = let p = c.requires in
     gives-stopped (leaf-unread p.good_table p.node_lt_nodes _ _ _ _ c.kind_at-number.ensures (not-inner _ (sym c.is_inner.ensures ∙ c.if-is_inner.false)) _ _ _ _ _ c.take_leaf-taken.ensures c.in_default.is)
 
 pub walk_item-overflow_add-after : goal.walk_item-overflow_add-after
-walk_item-overflow_add-after t c = omega (arith, (let item-inside : (c.in-Both.used ≤ length c.args.part.now) × (c.in-Both.beyond ≤ length c.args.other.now) = let p = c.requires.1 in
-    leaf-inside p.0 p.1.0 _ _ _ _ c.kind_at-number.ensures (not-inner _ (sym c.is_inner.ensures ∙ c.if-is_inner.false)) c.take_leaf-taken.ensures c.in-Both.is in item-inside).0, c.requires.part_bound)
+walk_item-overflow_add-after t c = omega (
+  arith,
+  (let item-inside : (c.in-Both.used ≤ length c.args.part.now) × (c.in-Both.beyond ≤ length c.args.other.now) = let p = c.requires in
+      leaf-inside p.good_table p.node_lt_nodes _ _ _ _ c.kind_at-number.ensures (not-inner _ (sym c.is_inner.ensures ∙ c.if-is_inner.false)) c.take_leaf-taken.ensures c.in-Both.is in item-inside).0,
+  c.requires.part_bound,
+)
 
 pub walk_item-overflow_add-behind : goal.walk_item-overflow_add-behind
-walk_item-overflow_add-behind t c = omega (arith, (let item-inside : (c.in-Both.used ≤ length c.args.part.now) × (c.in-Both.beyond ≤ length c.args.other.now) = let p = c.requires.1 in
-    leaf-inside p.0 p.1.0 _ _ _ _ c.kind_at-number.ensures (not-inner _ (sym c.is_inner.ensures ∙ c.if-is_inner.false)) c.take_leaf-taken.ensures c.in-Both.is in item-inside).1, c.requires.other_bound)
+walk_item-overflow_add-behind t c = omega (
+  arith,
+  (let item-inside : (c.in-Both.used ≤ length c.args.part.now) × (c.in-Both.beyond ≤ length c.args.other.now) = let p = c.requires in
+      leaf-inside p.good_table p.node_lt_nodes _ _ _ _ c.kind_at-number.ensures (not-inner _ (sym c.is_inner.ensures ∙ c.if-is_inner.false)) c.take_leaf-taken.ensures c.in-Both.is in item-inside).1,
+  c.requires.other_bound,
+)
 
 pub walk_item-returns-then-same : goal.walk_item-returns-then-same
 walk_item-returns-then-same t c = let p = c.requires in
@@ -121,22 +153,52 @@ walk_rounds-returns-in_default-got t c = turn-apart _ _ _ (row_kept _ _ _ _) _ _
     (begun-at _ _ _ _ _ _ _ _ _ _ _ c.begin-begun.ensures (rounds-turn _ _ _ _ _ _ _ _ _ _ _ _ _ _ c.loop-turns.invariant.0 c.loop-turns-test.true) c.in-At.is)
     c.walk_stretch-got.ensures c.in_default-got.is
 
+pub walk_rounds-overflow_sub-used : goal.walk_rounds-overflow_sub-used
+walk_rounds-overflow_sub-used t c = let went : Arrived c.loop-turns.rest.now c.loop-turns.at c.loop-turns.left.now c.loop-turns.by c.in-Both.one c.in-Both.beyond c.in-Both.first c.in-Both.so_far = (turned _ _ _ (row_kept _ _ _ _) _ _ _ _ _ _ _ _ _
+    (begun-at _ _ _ _ _ _ _ _ _ _ _ c.begin-begun.ensures (rounds-turn _ _ _ _ _ _ _ _ _ _ _ _ _ _ c.loop-turns.invariant.0 c.loop-turns-test.true) c.in-At.is)
+    c.walk_stretch-got.ensures (begun-few c.begin-begun.ensures c.in-At.is c.loop-turns.invariant.3) c.in-Both.is).0 in went.one.up
+
+pub walk_rounds-slice_bounds-rest-count : goal.walk_rounds-slice_bounds-rest-count
+walk_rounds-slice_bounds-rest-count t c = let went : Arrived c.loop-turns.rest.now c.loop-turns.at c.loop-turns.left.now c.loop-turns.by c.in-Both.one c.in-Both.beyond c.in-Both.first c.in-Both.so_far = (turned _ _ _ (row_kept _ _ _ _) _ _ _ _ _ _ _ _ _
+    (begun-at _ _ _ _ _ _ _ _ _ _ _ c.begin-begun.ensures (rounds-turn _ _ _ _ _ _ _ _ _ _ _ _ _ _ c.loop-turns.invariant.0 c.loop-turns-test.true) c.in-At.is)
+    c.walk_stretch-got.ensures (begun-few c.begin-begun.ensures c.in-At.is c.loop-turns.invariant.3) c.in-Both.is).0 in went.one.inside
+
+pub walk_rounds-slice_bounds-rest-start : goal.walk_rounds-slice_bounds-rest-start
+walk_rounds-slice_bounds-rest-start t c = let went : Arrived c.loop-turns.rest.now c.loop-turns.at c.loop-turns.left.now c.loop-turns.by c.in-Both.one c.in-Both.beyond c.in-Both.first c.in-Both.so_far = (turned _ _ _ (row_kept _ _ _ _) _ _ _ _ _ _ _ _ _
+    (begun-at _ _ _ _ _ _ _ _ _ _ _ c.begin-begun.ensures (rounds-turn _ _ _ _ _ _ _ _ _ _ _ _ _ _ c.loop-turns.invariant.0 c.loop-turns-test.true) c.in-At.is)
+    c.walk_stretch-got.ensures (begun-few c.begin-begun.ensures c.in-At.is c.loop-turns.invariant.3) c.in-Both.is).0 in went.one.inside
+
+pub walk_rounds-overflow_sub-past : goal.walk_rounds-overflow_sub-past
+walk_rounds-overflow_sub-past t c = let went : Arrived c.loop-turns.rest.now c.loop-turns.at c.loop-turns.left.now c.loop-turns.by c.in-Both.one c.in-Both.beyond c.in-Both.first c.in-Both.so_far = (turned _ _ _ (row_kept _ _ _ _) _ _ _ _ _ _ _ _ _
+    (begun-at _ _ _ _ _ _ _ _ _ _ _ c.begin-begun.ensures (rounds-turn _ _ _ _ _ _ _ _ _ _ _ _ _ _ c.loop-turns.invariant.0 c.loop-turns-test.true) c.in-At.is)
+    c.walk_stretch-got.ensures (begun-few c.begin-begun.ensures c.in-At.is c.loop-turns.invariant.3) c.in-Both.is).0 in went.other.up
+
+pub walk_rounds-slice_bounds-left-count : goal.walk_rounds-slice_bounds-left-count
+walk_rounds-slice_bounds-left-count t c = let went : Arrived c.loop-turns.rest.now c.loop-turns.at c.loop-turns.left.now c.loop-turns.by c.in-Both.one c.in-Both.beyond c.in-Both.first c.in-Both.so_far = (turned _ _ _ (row_kept _ _ _ _) _ _ _ _ _ _ _ _ _
+    (begun-at _ _ _ _ _ _ _ _ _ _ _ c.begin-begun.ensures (rounds-turn _ _ _ _ _ _ _ _ _ _ _ _ _ _ c.loop-turns.invariant.0 c.loop-turns-test.true) c.in-At.is)
+    c.walk_stretch-got.ensures (begun-few c.begin-begun.ensures c.in-At.is c.loop-turns.invariant.3) c.in-Both.is).0 in went.other.inside
+
+pub walk_rounds-slice_bounds-left-start : goal.walk_rounds-slice_bounds-left-start
+walk_rounds-slice_bounds-left-start t c = let went : Arrived c.loop-turns.rest.now c.loop-turns.at c.loop-turns.left.now c.loop-turns.by c.in-Both.one c.in-Both.beyond c.in-Both.first c.in-Both.so_far = (turned _ _ _ (row_kept _ _ _ _) _ _ _ _ _ _ _ _ _
+    (begun-at _ _ _ _ _ _ _ _ _ _ _ c.begin-begun.ensures (rounds-turn _ _ _ _ _ _ _ _ _ _ _ _ _ _ c.loop-turns.invariant.0 c.loop-turns-test.true) c.in-At.is)
+    c.walk_stretch-got.ensures (begun-few c.begin-begun.ensures c.in-At.is c.loop-turns.invariant.3) c.in-Both.is).0 in went.other.inside
+
 pub walk_rounds-loop-turns-preserved : goal.walk_rounds-loop-turns-preserved
 walk_rounds-loop-turns-preserved t c = (
-      (turned _ _ _ (row_kept _ _ _ _) _ _ _ _ _ _ _ _ _
-          (begun-at _ _ _ _ _ _ _ _ _ _ _ c.begin-begun.ensures (rounds-turn _ _ _ _ _ _ _ _ _ _ _ _ _ _ c.loop-turns.invariant.0 c.loop-turns-test.true) c.in-At.is)
-          c.walk_stretch-got.ensures (begun-few c.begin-begun.ensures c.in-At.is c.loop-turns.invariant.3) c.in-Both.is).1,
-      (let rounds-went : Arrived c.loop-turns.rest.now c.loop-turns.at c.loop-turns.left.now c.loop-turns.by c.in-Both.one c.in-Both.beyond c.in-Both.first c.in-Both.so_far = (turned _ _ _ (row_kept _ _ _ _) _ _ _ _ _ _ _ _ _
-    (begun-at _ _ _ _ _ _ _ _ _ _ _ c.begin-begun.ensures (rounds-turn _ _ _ _ _ _ _ _ _ _ _ _ _ _ c.loop-turns.invariant.0 c.loop-turns-test.true) c.in-At.is)
-    c.walk_stretch-got.ensures (begun-few c.begin-begun.ensures c.in-At.is c.loop-turns.invariant.3) c.in-Both.is).0 in rounds-went).one.auto ∙ c.loop-turns.invariant.1,
-      (let rounds-went : Arrived c.loop-turns.rest.now c.loop-turns.at c.loop-turns.left.now c.loop-turns.by c.in-Both.one c.in-Both.beyond c.in-Both.first c.in-Both.so_far = (turned _ _ _ (row_kept _ _ _ _) _ _ _ _ _ _ _ _ _
-    (begun-at _ _ _ _ _ _ _ _ _ _ _ c.begin-begun.ensures (rounds-turn _ _ _ _ _ _ _ _ _ _ _ _ _ _ c.loop-turns.invariant.0 c.loop-turns-test.true) c.in-At.is)
-    c.walk_stretch-got.ensures (begun-few c.begin-begun.ensures c.in-At.is c.loop-turns.invariant.3) c.in-Both.is).0 in rounds-went).other.auto ∙ c.loop-turns.invariant.2,
-      (let rounds-went : Arrived c.loop-turns.rest.now c.loop-turns.at c.loop-turns.left.now c.loop-turns.by c.in-Both.one c.in-Both.beyond c.in-Both.first c.in-Both.so_far = (turned _ _ _ (row_kept _ _ _ _) _ _ _ _ _ _ _ _ _
-    (begun-at _ _ _ _ _ _ _ _ _ _ _ c.begin-begun.ensures (rounds-turn _ _ _ _ _ _ _ _ _ _ _ _ _ _ c.loop-turns.invariant.0 c.loop-turns-test.true) c.in-At.is)
-    c.walk_stretch-got.ensures (begun-few c.begin-begun.ensures c.in-At.is c.loop-turns.invariant.3) c.in-Both.is).0 in rounds-went).few,
-      c.walk_stretch-got.auto.1.1.1.1.1.1.1.1.1.1.1.0 ∙ c.loop-turns.invariant.4,
-    )
+  (turned _ _ _ (row_kept _ _ _ _) _ _ _ _ _ _ _ _ _
+      (begun-at _ _ _ _ _ _ _ _ _ _ _ c.begin-begun.ensures (rounds-turn _ _ _ _ _ _ _ _ _ _ _ _ _ _ c.loop-turns.invariant.0 c.loop-turns-test.true) c.in-At.is)
+      c.walk_stretch-got.ensures (begun-few c.begin-begun.ensures c.in-At.is c.loop-turns.invariant.3) c.in-Both.is).1,
+  (let went : Arrived c.loop-turns.rest.now c.loop-turns.at c.loop-turns.left.now c.loop-turns.by c.in-Both.one c.in-Both.beyond c.in-Both.first c.in-Both.so_far = (turned _ _ _ (row_kept _ _ _ _) _ _ _ _ _ _ _ _ _
+      (begun-at _ _ _ _ _ _ _ _ _ _ _ c.begin-begun.ensures (rounds-turn _ _ _ _ _ _ _ _ _ _ _ _ _ _ c.loop-turns.invariant.0 c.loop-turns-test.true) c.in-At.is)
+      c.walk_stretch-got.ensures (begun-few c.begin-begun.ensures c.in-At.is c.loop-turns.invariant.3) c.in-Both.is).0 in went).one.kept ∙ c.loop-turns.invariant.1,
+  (let went : Arrived c.loop-turns.rest.now c.loop-turns.at c.loop-turns.left.now c.loop-turns.by c.in-Both.one c.in-Both.beyond c.in-Both.first c.in-Both.so_far = (turned _ _ _ (row_kept _ _ _ _) _ _ _ _ _ _ _ _ _
+      (begun-at _ _ _ _ _ _ _ _ _ _ _ c.begin-begun.ensures (rounds-turn _ _ _ _ _ _ _ _ _ _ _ _ _ _ c.loop-turns.invariant.0 c.loop-turns-test.true) c.in-At.is)
+      c.walk_stretch-got.ensures (begun-few c.begin-begun.ensures c.in-At.is c.loop-turns.invariant.3) c.in-Both.is).0 in went).other.kept ∙ c.loop-turns.invariant.2,
+  (let went : Arrived c.loop-turns.rest.now c.loop-turns.at c.loop-turns.left.now c.loop-turns.by c.in-Both.one c.in-Both.beyond c.in-Both.first c.in-Both.so_far = (turned _ _ _ (row_kept _ _ _ _) _ _ _ _ _ _ _ _ _
+      (begun-at _ _ _ _ _ _ _ _ _ _ _ c.begin-begun.ensures (rounds-turn _ _ _ _ _ _ _ _ _ _ _ _ _ _ c.loop-turns.invariant.0 c.loop-turns-test.true) c.in-At.is)
+      c.walk_stretch-got.ensures (begun-few c.begin-begun.ensures c.in-At.is c.loop-turns.invariant.3) c.in-Both.is).0 in went).few,
+  c.walk_stretch-got.auto.list ∙ c.loop-turns.invariant.4,
+)
 
 pub walk_rounds-returns : goal.walk_rounds-returns
 walk_rounds-returns t c = rounds-done _ _ _ _ _ _ _ _ _ _ _ _ _ _ c.loop-turns.invariant.0 c.loop-turns-test.false
@@ -150,19 +212,49 @@ pub walk_stretch-returns-in_default : goal.walk_stretch-returns-in_default
 walk_stretch-returns-in_default t c = turn-apart _ _ _ (node_kept _ _ _) _ _ _ _ _ _ _ _ _
     (row-turn _ _ _ _ _ _ _ _ _ _ _ _ c.loop-turns.invariant.0 c.loop-turns-test.true _ c.u16_at-c.ensures.0) c.walk_item-got.ensures c.in_default.is
 
+pub walk_stretch-overflow_sub-used : goal.walk_stretch-overflow_sub-used
+walk_stretch-overflow_sub-used t c = let went : Arrived c.loop-turns.rest.now c.loop-turns.at c.loop-turns.left.now c.loop-turns.by c.in-Both.one c.in-Both.beyond c.in-Both.first c.in-Both.so_far = (turned _ _ _ (node_kept _ _ _) _ _ _ _ _ _ _ _ _
+    (row-turn _ _ _ _ _ _ _ _ _ _ _ _ c.loop-turns.invariant.0 c.loop-turns-test.true _ c.u16_at-c.ensures.0) c.walk_item-got.ensures c.loop-turns.invariant.4 c.in-Both.is).0 in went.one.up
+
+pub walk_stretch-slice_bounds-rest-count : goal.walk_stretch-slice_bounds-rest-count
+walk_stretch-slice_bounds-rest-count t c = let went : Arrived c.loop-turns.rest.now c.loop-turns.at c.loop-turns.left.now c.loop-turns.by c.in-Both.one c.in-Both.beyond c.in-Both.first c.in-Both.so_far = (turned _ _ _ (node_kept _ _ _) _ _ _ _ _ _ _ _ _
+    (row-turn _ _ _ _ _ _ _ _ _ _ _ _ c.loop-turns.invariant.0 c.loop-turns-test.true _ c.u16_at-c.ensures.0) c.walk_item-got.ensures c.loop-turns.invariant.4 c.in-Both.is).0 in went.one.inside
+
+pub walk_stretch-slice_bounds-rest-start : goal.walk_stretch-slice_bounds-rest-start
+walk_stretch-slice_bounds-rest-start t c = let went : Arrived c.loop-turns.rest.now c.loop-turns.at c.loop-turns.left.now c.loop-turns.by c.in-Both.one c.in-Both.beyond c.in-Both.first c.in-Both.so_far = (turned _ _ _ (node_kept _ _ _) _ _ _ _ _ _ _ _ _
+    (row-turn _ _ _ _ _ _ _ _ _ _ _ _ c.loop-turns.invariant.0 c.loop-turns-test.true _ c.u16_at-c.ensures.0) c.walk_item-got.ensures c.loop-turns.invariant.4 c.in-Both.is).0 in went.one.inside
+
+pub walk_stretch-overflow_sub-past : goal.walk_stretch-overflow_sub-past
+walk_stretch-overflow_sub-past t c = let went : Arrived c.loop-turns.rest.now c.loop-turns.at c.loop-turns.left.now c.loop-turns.by c.in-Both.one c.in-Both.beyond c.in-Both.first c.in-Both.so_far = (turned _ _ _ (node_kept _ _ _) _ _ _ _ _ _ _ _ _
+    (row-turn _ _ _ _ _ _ _ _ _ _ _ _ c.loop-turns.invariant.0 c.loop-turns-test.true _ c.u16_at-c.ensures.0) c.walk_item-got.ensures c.loop-turns.invariant.4 c.in-Both.is).0 in went.other.up
+
+pub walk_stretch-slice_bounds-left-count : goal.walk_stretch-slice_bounds-left-count
+walk_stretch-slice_bounds-left-count t c = let went : Arrived c.loop-turns.rest.now c.loop-turns.at c.loop-turns.left.now c.loop-turns.by c.in-Both.one c.in-Both.beyond c.in-Both.first c.in-Both.so_far = (turned _ _ _ (node_kept _ _ _) _ _ _ _ _ _ _ _ _
+    (row-turn _ _ _ _ _ _ _ _ _ _ _ _ c.loop-turns.invariant.0 c.loop-turns-test.true _ c.u16_at-c.ensures.0) c.walk_item-got.ensures c.loop-turns.invariant.4 c.in-Both.is).0 in went.other.inside
+
+pub walk_stretch-slice_bounds-left-start : goal.walk_stretch-slice_bounds-left-start
+walk_stretch-slice_bounds-left-start t c = let went : Arrived c.loop-turns.rest.now c.loop-turns.at c.loop-turns.left.now c.loop-turns.by c.in-Both.one c.in-Both.beyond c.in-Both.first c.in-Both.so_far = (turned _ _ _ (node_kept _ _ _) _ _ _ _ _ _ _ _ _
+    (row-turn _ _ _ _ _ _ _ _ _ _ _ _ c.loop-turns.invariant.0 c.loop-turns-test.true _ c.u16_at-c.ensures.0) c.walk_item-got.ensures c.loop-turns.invariant.4 c.in-Both.is).0 in went.other.inside
+
 pub walk_stretch-loop-turns-preserved : goal.walk_stretch-loop-turns-preserved
 walk_stretch-loop-turns-preserved t c = (
-      (turned _ _ _ (node_kept _ _ _) _ _ _ _ _ _ _ _ _
-          (row-turn _ _ _ _ _ _ _ _ _ _ _ _ c.loop-turns.invariant.0 c.loop-turns-test.true _ c.u16_at-c.ensures.0) c.walk_item-got.ensures c.loop-turns.invariant.4 c.in-Both.is).1,
-      falls-next c.loop-turns.invariant.1 c.loop-turns-test.true,
-      omega (arith, (let stretch-went : Arrived c.loop-turns.rest.now c.loop-turns.at c.loop-turns.left.now c.loop-turns.by c.in-Both.one c.in-Both.beyond c.in-Both.first c.in-Both.so_far = (turned _ _ _ (node_kept _ _ _) _ _ _ _ _ _ _ _ _
-    (row-turn _ _ _ _ _ _ _ _ _ _ _ _ c.loop-turns.invariant.0 c.loop-turns-test.true _ c.u16_at-c.ensures.0) c.walk_item-got.ensures c.loop-turns.invariant.4 c.in-Both.is).0 in stretch-went).one.auto),
-      omega (arith, (let stretch-went : Arrived c.loop-turns.rest.now c.loop-turns.at c.loop-turns.left.now c.loop-turns.by c.in-Both.one c.in-Both.beyond c.in-Both.first c.in-Both.so_far = (turned _ _ _ (node_kept _ _ _) _ _ _ _ _ _ _ _ _
-    (row-turn _ _ _ _ _ _ _ _ _ _ _ _ c.loop-turns.invariant.0 c.loop-turns-test.true _ c.u16_at-c.ensures.0) c.walk_item-got.ensures c.loop-turns.invariant.4 c.in-Both.is).0 in stretch-went).other.auto),
-      (let stretch-went : Arrived c.loop-turns.rest.now c.loop-turns.at c.loop-turns.left.now c.loop-turns.by c.in-Both.one c.in-Both.beyond c.in-Both.first c.in-Both.so_far = (turned _ _ _ (node_kept _ _ _) _ _ _ _ _ _ _ _ _
-    (row-turn _ _ _ _ _ _ _ _ _ _ _ _ c.loop-turns.invariant.0 c.loop-turns-test.true _ c.u16_at-c.ensures.0) c.walk_item-got.ensures c.loop-turns.invariant.4 c.in-Both.is).0 in stretch-went).few,
-      c.walk_item-got.auto.1.1.1.1.1.1.1.1.1.0 ∙ c.loop-turns.invariant.5,
-    )
+  (turned _ _ _ (node_kept _ _ _) _ _ _ _ _ _ _ _ _
+      (row-turn _ _ _ _ _ _ _ _ _ _ _ _ c.loop-turns.invariant.0 c.loop-turns-test.true _ c.u16_at-c.ensures.0) c.walk_item-got.ensures c.loop-turns.invariant.4 c.in-Both.is).1,
+  falls-next c.loop-turns.invariant.1 c.loop-turns-test.true,
+  omega (
+    arith,
+    (let went : Arrived c.loop-turns.rest.now c.loop-turns.at c.loop-turns.left.now c.loop-turns.by c.in-Both.one c.in-Both.beyond c.in-Both.first c.in-Both.so_far = (turned _ _ _ (node_kept _ _ _) _ _ _ _ _ _ _ _ _
+        (row-turn _ _ _ _ _ _ _ _ _ _ _ _ c.loop-turns.invariant.0 c.loop-turns-test.true _ c.u16_at-c.ensures.0) c.walk_item-got.ensures c.loop-turns.invariant.4 c.in-Both.is).0 in went).one.kept,
+  ),
+  omega (
+    arith,
+    (let went : Arrived c.loop-turns.rest.now c.loop-turns.at c.loop-turns.left.now c.loop-turns.by c.in-Both.one c.in-Both.beyond c.in-Both.first c.in-Both.so_far = (turned _ _ _ (node_kept _ _ _) _ _ _ _ _ _ _ _ _
+        (row-turn _ _ _ _ _ _ _ _ _ _ _ _ c.loop-turns.invariant.0 c.loop-turns-test.true _ c.u16_at-c.ensures.0) c.walk_item-got.ensures c.loop-turns.invariant.4 c.in-Both.is).0 in went).other.kept,
+  ),
+  (let went : Arrived c.loop-turns.rest.now c.loop-turns.at c.loop-turns.left.now c.loop-turns.by c.in-Both.one c.in-Both.beyond c.in-Both.first c.in-Both.so_far = (turned _ _ _ (node_kept _ _ _) _ _ _ _ _ _ _ _ _
+      (row-turn _ _ _ _ _ _ _ _ _ _ _ _ c.loop-turns.invariant.0 c.loop-turns-test.true _ c.u16_at-c.ensures.0) c.walk_item-got.ensures c.loop-turns.invariant.4 c.in-Both.is).0 in went).few,
+  c.walk_item-got.auto.list ∙ c.loop-turns.invariant.5,
+)
 
 pub walk_stretch-returns : goal.walk_stretch-returns
 walk_stretch-returns t c = row_done _ _ _ _ _ _ _ _ _ _ _ _ c.loop-turns.invariant.0 c.loop-turns-test.false

@@ -34,10 +34,18 @@ pub read_inner-flat-way-requires : goal.read_inner-flat-way-requires
 read_inner-flat-way-requires t c = record { good_table = c.requires.good_table; node_le_nodes = omega (arith, c.requires.node_lt_nodes); falls = (entered_on _ _ c.requires.good_table c.requires.node_lt_nodes _ _ _ _ c.requires.made_lt_room c.enter-entered.ensures (head-by-sound _) c.in-On.is).falls }
 
 pub read_inner-read_rounds-requires : goal.read_inner-read_rounds-requires
-read_inner-read_rounds-requires t c = let low : c.args.node * 4 + 1 < c.args.node * 4 + 2 = omega arith in (
-  rw c.decreases at low,
-  (c.requires.good_table, (omega (arith, c.requires.node_lt_nodes), (flat-falls c.requires.good_table (omega (arith, c.requires.node_lt_nodes)) c.flat-way.ensures, omega (arith, (let inner-inside : c.in-On.used ≤ length c.args.part.now = (entered_on _ _ c.requires.node_lt_nodes c.requires.inner _ _ _ _ c.requires.part_bound.0 c.enter-entered.ensures (head-by-sound _) c.in-On.is).inside in inner-inside), c.requires.part_bound, length-tail c.args.part.now c.in-On.used)))),
-)
+read_inner-read_rounds-requires t c =
+    let low : c.args.node * 4 + 1 < c.args.node * 4 + 2 = omega arith in
+    let inside : c.in-On.used ≤ length c.args.part.now = (entered_on _ _ c.requires.good_table c.requires.node_lt_nodes _ _ _ _ c.requires.made_lt_room c.enter-entered.ensures (head-by-sound _) c.in-On.is).inside in (
+      rw c.decreases at low,
+      (c.requires.good_table, (omega (arith, c.requires.node_lt_nodes), (flat-falls c.requires.good_table (omega (arith, c.requires.node_lt_nodes)) c.flat-way.ensures, omega (arith, inside, c.requires.part_bound, length-tail c.args.part.now c.in-On.used)))),
+    )
+
+pub read_inner-slice_bounds-read_rounds-count : goal.read_inner-slice_bounds-read_rounds-count
+read_inner-slice_bounds-read_rounds-count t c = (entered_on _ _ c.requires.good_table c.requires.node_lt_nodes _ _ _ _ c.requires.made_lt_room c.enter-entered.ensures (head-by-sound _) c.in-On.is).inside
+
+pub read_inner-slice_bounds-read_rounds-start : goal.read_inner-slice_bounds-read_rounds-start
+read_inner-slice_bounds-read_rounds-start t c = (entered_on _ _ c.requires.good_table c.requires.node_lt_nodes _ _ _ _ c.requires.made_lt_room c.enter-entered.ensures (head-by-sound _) c.in-On.is).inside
 
 pub read_inner-returns-in-Refused : goal.read_inner-returns-in-Refused
 read_inner-returns-in-Refused t c = entered-refused _ _ c.requires.good_table c.requires.node_lt_nodes _ _ _ _ c.requires.made_lt_room c.enter-entered.ensures c.in-Refused.is
@@ -82,6 +90,21 @@ read_rounds-returns-in_default-got t c = turn-refused _ _ _ (row-steady (head-by
     (begun-at (head-by-sound _) _ _ _ _ _ _ _ c.begin-begun.ensures (rounds-turn _ _ _ _ _ _ _ _ _ _ _ _ _ c.loop-left.invariant.0 c.loop-left-test.true) c.in-At.is)
     _ _ c.read_stretch-got.ensures c.in_default-got.is
 
+pub read_rounds-overflow_sub-used : goal.read_rounds-overflow_sub-used
+read_rounds-overflow_sub-used t c = let went : Went c.loop-left.rest.now c.loop-left.at c.in-Done.next = (turned _ _ _ (row-steady (head-by-sound _) _ _ _ _) _ _ _ _ _
+    (begun-at (head-by-sound _) _ _ _ _ _ _ _ c.begin-begun.ensures (rounds-turn _ _ _ _ _ _ _ _ _ _ _ _ _ c.loop-left.invariant.0 c.loop-left-test.true) c.in-At.is)
+    _ _ c.read_stretch-got.ensures c.in-Done.is).0 in went.up
+
+pub read_rounds-slice_bounds-rest-count : goal.read_rounds-slice_bounds-rest-count
+read_rounds-slice_bounds-rest-count t c = let went : Went c.loop-left.rest.now c.loop-left.at c.in-Done.next = (turned _ _ _ (row-steady (head-by-sound _) _ _ _ _) _ _ _ _ _
+    (begun-at (head-by-sound _) _ _ _ _ _ _ _ c.begin-begun.ensures (rounds-turn _ _ _ _ _ _ _ _ _ _ _ _ _ c.loop-left.invariant.0 c.loop-left-test.true) c.in-At.is)
+    _ _ c.read_stretch-got.ensures c.in-Done.is).0 in went.inside
+
+pub read_rounds-slice_bounds-rest-start : goal.read_rounds-slice_bounds-rest-start
+read_rounds-slice_bounds-rest-start t c = let went : Went c.loop-left.rest.now c.loop-left.at c.in-Done.next = (turned _ _ _ (row-steady (head-by-sound _) _ _ _ _) _ _ _ _ _
+    (begun-at (head-by-sound _) _ _ _ _ _ _ _ c.begin-begun.ensures (rounds-turn _ _ _ _ _ _ _ _ _ _ _ _ _ c.loop-left.invariant.0 c.loop-left-test.true) c.in-At.is)
+    _ _ c.read_stretch-got.ensures c.in-Done.is).0 in went.inside
+
 pub read_rounds-loop-left-preserved : goal.read_rounds-loop-left-preserved
 read_rounds-loop-left-preserved t c = (
   (turned _ _ _ (row-steady (head-by-sound _) _ _ _ _) _ _ _ _ _
@@ -89,11 +112,11 @@ read_rounds-loop-left-preserved t c = (
       _ _ c.read_stretch-got.ensures c.in-Done.is).1,
   omega (
     arith,
-    (let rounds-went : Went c.loop-left.rest.now c.loop-left.at c.in-Done.next = (turned _ _ _ (row-steady (head-by-sound _) _ _ _ _) _ _ _ _ _
+    (let went : Went c.loop-left.rest.now c.loop-left.at c.in-Done.next = (turned _ _ _ (row-steady (head-by-sound _) _ _ _ _) _ _ _ _ _
         (begun-at (head-by-sound _) _ _ _ _ _ _ _ c.begin-begun.ensures (rounds-turn _ _ _ _ _ _ _ _ _ _ _ _ _ c.loop-left.invariant.0 c.loop-left-test.true) c.in-At.is)
-        _ _ c.read_stretch-got.ensures c.in-Done.is).0 in rounds-went).kept,
+        _ _ c.read_stretch-got.ensures c.in-Done.is).0 in went).kept,
   ),
-  c.read_stretch-got.auto.1.1.1.1.1.1.1.1.1.0 ∙ c.begin-begun.auto.1.1.1.0 ∙ c.loop-left.invariant.2,
+  c.read_stretch-got.auto.store ∙ c.begin-begun.auto.store ∙ c.loop-left.invariant.2,
 )
 
 pub read_rounds-returns : goal.read_rounds-returns
@@ -106,12 +129,21 @@ read_stretch-read_item-got-requires t c = let f = falls-first c.loop-left.invari
 pub read_stretch-returns-in_default : goal.read_stretch-returns-in_default
 read_stretch-returns-in_default t c = turn-refused _ _ _ (node-steady (head-by-sound _) _ _ _) _ _ _ _ _ (row-turn _ _ _ _ _ _ _ _ _ _ _ c.loop-left.invariant.0 c.loop-left-test.true _ c.u16_at-c.ensures.0) _ _ c.read_item-got.ensures c.in_default.is
 
+pub read_stretch-overflow_sub-used : goal.read_stretch-overflow_sub-used
+read_stretch-overflow_sub-used t c = let went : Went c.loop-left.rest.now c.loop-left.at c.in-Done.next = (turned _ _ _ (node-steady (head-by-sound _) _ _ _) _ _ _ _ _ (row-turn _ _ _ _ _ _ _ _ _ _ _ c.loop-left.invariant.0 c.loop-left-test.true _ c.u16_at-c.ensures.0) _ _ c.read_item-got.ensures c.in-Done.is).0 in went.up
+
+pub read_stretch-slice_bounds-rest-count : goal.read_stretch-slice_bounds-rest-count
+read_stretch-slice_bounds-rest-count t c = let went : Went c.loop-left.rest.now c.loop-left.at c.in-Done.next = (turned _ _ _ (node-steady (head-by-sound _) _ _ _) _ _ _ _ _ (row-turn _ _ _ _ _ _ _ _ _ _ _ c.loop-left.invariant.0 c.loop-left-test.true _ c.u16_at-c.ensures.0) _ _ c.read_item-got.ensures c.in-Done.is).0 in went.inside
+
+pub read_stretch-slice_bounds-rest-start : goal.read_stretch-slice_bounds-rest-start
+read_stretch-slice_bounds-rest-start t c = let went : Went c.loop-left.rest.now c.loop-left.at c.in-Done.next = (turned _ _ _ (node-steady (head-by-sound _) _ _ _) _ _ _ _ _ (row-turn _ _ _ _ _ _ _ _ _ _ _ c.loop-left.invariant.0 c.loop-left-test.true _ c.u16_at-c.ensures.0) _ _ c.read_item-got.ensures c.in-Done.is).0 in went.inside
+
 pub read_stretch-loop-left-preserved : goal.read_stretch-loop-left-preserved
 read_stretch-loop-left-preserved t c = (
   (turned _ _ _ (node-steady (head-by-sound _) _ _ _) _ _ _ _ _ (row-turn _ _ _ _ _ _ _ _ _ _ _ c.loop-left.invariant.0 c.loop-left-test.true _ c.u16_at-c.ensures.0) _ _ c.read_item-got.ensures c.in-Done.is).1,
   falls-next c.loop-left.invariant.1 c.loop-left-test.true,
-  omega (arith, (let stretch-went : Went c.loop-left.rest.now c.loop-left.at c.in-Done.next = (turned _ _ _ (node-steady (head-by-sound _) _ _ _) _ _ _ _ _ (row-turn _ _ _ _ _ _ _ _ _ _ _ c.loop-left.invariant.0 c.loop-left-test.true _ c.u16_at-c.ensures.0) _ _ c.read_item-got.ensures c.in-Done.is).0 in stretch-went).kept),
-  c.read_item-got.auto.1.1.1.1.1.1.1.0 ∙ c.loop-left.invariant.3,
+  omega (arith, (let went : Went c.loop-left.rest.now c.loop-left.at c.in-Done.next = (turned _ _ _ (node-steady (head-by-sound _) _ _ _) _ _ _ _ _ (row-turn _ _ _ _ _ _ _ _ _ _ _ c.loop-left.invariant.0 c.loop-left-test.true _ c.u16_at-c.ensures.0) _ _ c.read_item-got.ensures c.in-Done.is).0 in went).kept),
+  c.read_item-got.auto.store ∙ c.loop-left.invariant.3,
 )
 
 pub read_stretch-returns : goal.read_stretch-returns

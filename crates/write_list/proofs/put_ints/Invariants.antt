@@ -6,7 +6,7 @@ use Rattle.write_list.specs.Steps.{Leads}
 use Rattle.write_list.proofs.put_ints.Given as goal
 
 abbrev pub invariant-loop-left : goal.invariant-loop-left
-invariant-loop-left l = Leads l.table l.l l.from l.width l.words l.at l.initial.out (record { l.at = l.i; used = l.n; l.field = l.field; l.left = l.left }) l.out × (length l.out ≡ length l.initial.out)
+invariant-loop-left l = Leads l.table l.l l.from l.width l.words l.at l.initial.out (record { at = l.i; used = l.n; child = l.field; left = l.left }) l.out × (length l.out ≡ length l.initial.out)
 
 abbrev pub decreases-loop-left : goal.decreases-loop-left
 decreases-loop-left l = l.left

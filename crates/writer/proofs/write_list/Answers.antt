@@ -24,7 +24,7 @@ pub returns-then-number-le13 : goal.returns-then-number-le13
 returns-then-number-le13 c = let leaf = low-leaf c.kind_at-number.result (omega arith) in writes-whole _ _ _ _ c.requires (are-whole (length c.args.words.now) 1 (omega arith)) (rw (root-leaf _ c.requires c.kind_at-number.ensures leaf c.args.pool.now c.args.words.now) c.write_alone.ensures)
 
 pub write_begun-requires : goal.write_begun-requires
-write_begun-requires c = let a = c.args in let t = tail a.table.now 0 in let w = tail a.words.now 0 in let p = tail a.pool.now 0 in rw (t, w, p) (c.requires, is-kept (c.put_nothing-nothing.ensures.all _ _ _) refl)
+write_begun-requires c = let a = c.args in let t = tail a.table.now 0 in let w = tail a.words.now 0 in let p = tail a.pool.now 0 in rw (t, w, p) (record { table_value = c.requires; kept = is-kept (c.put_nothing-nothing.ensures.all _ _ _) refl })
 
 pub returns-then-len-gt-FEW : goal.returns-then-len-gt-FEW
 returns-then-len-gt-FEW c = let a = c.args in let t = tail a.table.now 0 in let w = tail a.words.now 0 in let p = tail a.pool.now 0 in rw (t, w, p) at c.write_begun.ensures
@@ -37,7 +37,7 @@ unfolding room_of
 returns-then-n-out c = let whole = c.if-front-len.true in writes-whole _ _ _ _ c.requires (are-whole (length c.args.words.now) _ whole) (judged-short _ (reaches_end c.put_front-front.ensures c.if-front-eq0.true) refl (few_bytes _ c.well_formed.1.1.1.1.0.1) (omega arith) c.if-n-out.true (omega arith) c.put_bytes.ensures)
 
 pub write_begun-requires-2 : goal.write_begun-requires-2
-write_begun-requires-2 c = let a = c.args in let t = tail a.table.now 0 in let w = tail a.words.now 0 in let p = tail a.pool.now 0 in rw (t, w, p) (c.requires, is-kept c.put_front-front.ensures (search rules))
+write_begun-requires-2 c = let a = c.args in let t = tail a.table.now 0 in let w = tail a.words.now 0 in let p = tail a.pool.now 0 in rw (t, w, p) (record { table_value = c.requires; kept = is-kept c.put_front-front.ensures (search rules) })
 
 pub returns : goal.returns
 returns c = let a = c.args in let t = tail a.table.now 0 in let w = tail a.words.now 0 in let p = tail a.pool.now 0 in rw (t, w, p) at c.write_begun-2.ensures

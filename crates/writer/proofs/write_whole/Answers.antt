@@ -5,7 +5,7 @@ use Rattle.writer.proofs.Promised.{is-kept}
 use Rattle.writer.proofs.write_whole.Goals as goal
 
 pub returns-then-len-le-FEW : goal.returns-then-len-le-FEW
-returns-then-len-le-FEW c = c.write-Kept.ensures
+returns-then-len-le-FEW c = c.write_kept.ensures
 
 pub write_kept-requires-then-len-le-MANY : goal.write_kept-requires-then-len-le-MANY
 write_kept-requires-then-len-le-MANY c = record { table_value = c.requires.table_value; kept = is-kept (c.put_nothing-nothing.ensures.all _ _ _) refl }

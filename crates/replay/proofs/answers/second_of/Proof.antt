@@ -1,6 +1,5 @@
 -- `replay::answers::second_of` meets its contract, case by case.
 -- Assumes nothing.
-use mathlib.Core.Path.{refl}
 use Rattle.desk.specs.Path.{second_of}
 use borrow.Author.Rules.{rules}
 use Rattle.replay.proofs.answers.second_of.Statement.{statement}

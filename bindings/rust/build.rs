@@ -1,5 +1,5 @@
 //! Links the static library: `REYSTAVEM_LIB`, or `target/staticlib` of the repository, where
-//! `rt staticlib exports` leaves it.
+//! `tools/build` leaves it.
 use std::env;
 use std::path::PathBuf;
 

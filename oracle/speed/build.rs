@@ -1,4 +1,4 @@
-//! Links what `rt staticlib` left in the repository's target/staticlib.
+//! Links what `tools/build` left in the repository's target/staticlib.
 use std::path::Path;
 
 fn main() {

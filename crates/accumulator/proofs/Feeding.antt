@@ -8,7 +8,6 @@ use Prim.Native.Nat.{ℕ, ◌+◌, ◌-◌, ◌≤◌, ◌<◌}
 use native.Mathlib.Omega.{arith}
 use borrow.Author.Tests.{le-leb, lt-leb, eq-eqb, ne_eqb}
 use lib.ListN.{length, take, drop}
-use lib.Dec.{eqb}
 use lib.Seq.{drop-length}
 use Rattle.wire.specs.Tests.{pick, both}
 use Rattle.wire.specs.Frames.{room, to_zero, decode, padded, no_message, framed, feed_on, feed_end, feed_fit, feed_by, rule, feed}

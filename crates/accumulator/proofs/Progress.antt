@@ -8,7 +8,7 @@ use Prim.Native.Nat.{ℕ, ◌+◌, ◌≤◌, ◌<◌}
 use native.Mathlib.Omega.{arith}
 use borrow.Author.Tests.{ltb-false}
 use lib.ListN.{length, take, drop, length-drop}
-use lib.Dec.{leb, ltb}
+use lib.Dec.{leb}
 use Rattle.wire.specs.Tests.{pick}
 use Rattle.wire.specs.Frames.{Fed, Marked, room, rule, to_zero, decode, no_message, framed, feed_on, feed_end, feed_fit, feed_by, spills, feed_fresh, feed_waiting, feed_marked, feed}
 use Rattle.accumulator.specs.declared.Marked as code

@@ -1,7 +1,7 @@
 -- Compaction: what refuses first, and the batch of what is kept where nothing does.
 -- Assumes nothing.
 use mathlib.Core.Path.{◌≡◌, refl, sym, ap, ◌∙◌, subst}
-use mathlib.Core.Bool.{Bool, true, false, not}
+use mathlib.Core.Bool.{Bool, true, false}
 use mathlib.Core.List.{List, ◌++◌}
 use Prim.Native.Nat.{ℕ, ◌+◌, ◌-◌, ◌*◌, ◌≤◌}
 use native.Mathlib.Omega.{arith}
@@ -39,7 +39,6 @@ use Rattle.batch.specs.declared.Opened.TheVariants.{Refused as NotOpened}
 use Rattle.batch.specs.Opened.{row_bytes_of, Parted, Opens, refuses}
 use Rattle.batch.specs.Writing.{Writes}
 use Rattle.batch.specs.Compacting.{compacted_by}
-use Rattle.batch.proofs.Opening.{not-true, not-false}
 use Rattle.batch.proofs.Writing.{unwritten}
 
 pub judged-good : {b : Parts} {t : Bool} → Judges b t → t ≡ true → Good b

@@ -1,7 +1,7 @@
 -- Writing: what refuses first, and the batch where nothing does.
 -- Assumes nothing.
 use mathlib.Core.Path.{◌≡◌, refl, sym, ap, ◌∙◌, subst}
-use mathlib.Core.Bool.{Bool, true, false, not}
+use mathlib.Core.Bool.{Bool, true, false}
 use mathlib.Core.List.{List, ◌++◌}
 use Prim.Native.Nat.{ℕ, ◌+◌, ◌-◌, ◌*◌, ◌^◌, ◌≤◌, ◌<◌}
 use lib.ListN.{length, take, drop}
@@ -35,7 +35,6 @@ use Rattle.laying.specs.declared.Counted.TheVariants.{All, Stopped}
 use Rattle.laying.specs.Counts.{Counts, counts, breaks, rows_for, ending, Laid, batch_for}
 use Rattle.laying.proofs.Laying.{sorted-rows}
 use Rattle.batch.specs.Writing.{Writes, Fitting, made_by}
-use Rattle.batch.proofs.Opening.{not-true, not-false}
 
 -- a refusal leaves the output
 pub unwritten : {made : Or (List ℕ)} {out : List ℕ} {why : Fault} → made ≡ fault why → Writes made out (Refused why) out

@@ -1,9 +1,9 @@
 -- A batch is good exactly if its bytes are read to the rows, these rise and are as many as the messages, and each stands at its message.
 -- Assumes nothing.
-use mathlib.Core.Path.{◌≡◌, refl, sym, ap, ◌∙◌, subst}
+use mathlib.Core.Path.{◌≡◌, refl, sym, ap, ◌∙◌}
 use mathlib.Core.Bool.{true, false}
 use mathlib.Core.List.{List, [], ◌∷◌}
-use Prim.Native.Nat.{ℕ, zero, suc, ◌+◌, ◌<◌, ◌≤◌}
+use Prim.Native.Nat.{ℕ, suc, ◌<◌, ◌≤◌}
 use native.Mathlib.Omega.{arith}
 use lib.ListN.{length, drop, get_or, length-drop}
 use Rattle.wire.specs.declared.Refusal.{Refusal}
@@ -24,7 +24,7 @@ use Rattle.batches.proofs.Ends.{split-reads}
 use Rattle.batches.proofs.Checks.{messages-of}
 use Rattle.batches.proofs.Found.{occurs-at}
 use Rattle.batches.proofs.Rising.{sorted-if-those, sorted_rises}
-use Rattle.batches.proofs.Starting.{never-stops, nothing_left, behind-of, Whole, whole_of, stands-in, in-stands}
+use Rattle.batches.proofs.Starting.{never-stops, nothing_left, behind-of, whole_of, stands-in, in-stands}
 
 -- no messages have these rows
 pub messages-bad : (b : Parts) → ((ms : List Message) → split b.keys b.front ≡ whole ms → b.rows ≡ sort (rows_of 0 ms) → ⊥) → messages_of b ≡ fault BadBatch

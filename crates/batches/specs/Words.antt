@@ -4,7 +4,7 @@ use Rattle.std.specs.Prelude.{◌≡◌, List, ◌∷◌, ◌++◌, ℕ, zero, s
 use Rattle.wire.specs.Shape.{Shapes, count}
 use Rattle.wire.specs.Shape as shapes
 use Rattle.wire.specs.Values.{Entry}
-use Rattle.wire.specs.Reading.{Spot, front, reached, head, reading}
+use Rattle.wire.specs.Reading.{Spot, reached, head, reading}
 use Rattle.laws.specs.Steps.{row}
 use Rattle.desk.specs.Messages.{word_at}
 

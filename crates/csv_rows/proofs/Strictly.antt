@@ -2,21 +2,19 @@
 -- Assumes nothing.
 use mathlib.Core.Path.{◌≡◌, refl, sym, ap, subst, ◌∙◌}
 use mathlib.Core.Bool.{true, false}
-use mathlib.Core.List.{List, [], ◌∷◌, ◌++◌, append-nil}
-use Prim.Native.Nat.{ℕ, ◌+◌}
+use mathlib.Core.List.{List, [], ◌∷◌, append-nil}
+use Prim.Native.Nat.{ℕ}
 use native.Mathlib.Omega.{arith}
 use native.Mathlib.Nat.{zero-add}
-use lib.ListN.{length, take}
-use Rattle.wire.specs.declared.Layout.{Layout}
+use lib.ListN.{take}
 use Rattle.wire.specs.declared.Checked.{Checked}
 use Rattle.wire.specs.declared.Checked.TheVariants.{Good, Bad}
 use Rattle.wire.specs.Shape.{Shape}
 use Rattle.wire.specs.Table.{check, shape_of}
-use Rattle.wire.specs.Values.{Entry, Value, Valued, number, whole, too_short, too_long, unknown, values, tell}
+use Rattle.wire.specs.Values.{Entry, Value, Valued, whole, too_short, too_long, unknown, values, tell}
 use Rattle.wire.specs.Reading.{Spot, front, reached, Run, read}
 use Rattle.wire.specs.Writing.{write}
 use Rattle.wire.specs.Answers.{read_by, reads, room_of}
-use Rattle.laws.specs.Range.{AreBytes}
 use Rattle.laws.proofs.ReadBy.{reads_plain}
 use Rattle.laws.proofs.Runs.{fit-reached}
 use Rattle.promises.specs.Strict.{tags_of, items_by, items, all_shortest}

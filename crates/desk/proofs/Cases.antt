@@ -1,6 +1,6 @@
 -- Each example holds by computing both sides.
 -- Assumes nothing.
-use mathlib.Core.Path.{◌≡◌, refl}
+use mathlib.Core.Path.{refl}
 use Rattle.wire.proofs.Cases.{computing}
 use Rattle.desk.specs.Path.{is_field, is_passed, leads, leads_at, is_there, locate_on, locate_item, locate, locate_at, find_answer, find_in, find_of, find_by, finds, find_says, first_of, second_of}
 use Rattle.desk.specs.Differ.{same_bytes, same_value, same_item, sole, pairing, compare_nothing, compare_then, differing, compare_two, pass_one, compare_item, take_entry, differences, compare_runs, compare_reads, compare_by, compares, pair_words, has_room, compare_answer, list_after, compare_says, which_of, count_of}

@@ -2,7 +2,7 @@
 -- Letters: t a shape, k its kind, n how many children it has, e and f entries, a and b what comes next on each side, x and y where
 -- the sides stand, s a source of items or bytes, p a place or a pair, r a run, l a layout; a prime is for the other message.
 -- Assumes nothing.
-use Rattle.std.specs.Prelude.{Bool, true, false, List, [], ◌∷◌, ◌++◌, ℕ, zero, suc, ◌/◌, length, drop, eqb, leb}
+use Rattle.std.specs.Prelude.{Bool, true, false, List, [], ◌∷◌, ◌++◌, ℕ, ◌/◌, length, drop, eqb, leb}
 use Rattle.std.proofs.Math.Option.{Option, none, some}
 use Rattle.wire.specs.declared.Checked.{Checked}
 use Rattle.wire.specs.declared.Checked.TheVariants.{Good, Bad}

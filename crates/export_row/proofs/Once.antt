@@ -1,6 +1,6 @@
 -- Bytes that were laid once are refused, or are written: the count is exact where it is compared with the output, and nothing else was changed.
 -- Assumes nothing.
-use mathlib.Core.Path.{◌≡◌, refl, sym, ap, ◌∙◌}
+use mathlib.Core.Path.{◌≡◌, refl, ap, ◌∙◌}
 use mathlib.Core.List.{List, ◌++◌}
 use Prim.Native.Nat.{ℕ, ◌^◌, ◌<◌, ◌≤◌}
 use native.Mathlib.Omega.{arith}
@@ -12,7 +12,7 @@ use Rattle.wire.specs.declared.Refusal.TheVariants.{Full}
 use Rattle.wire.specs.Tests.{pick}
 use Rattle.desk.specs.declared.CsvAnswer.{CsvAnswer}
 use Rattle.desk.specs.declared.CsvAnswer.TheVariants.{Done, Refused}
-use Rattle.desk.specs.Csv.{Output, bytes, refusal, within, csv_answer, out_after}
+use Rattle.desk.specs.Csv.{Output, refusal, within, csv_answer, out_after}
 use Rattle.output.specs.Bytes.{cap, Puts}
 use Rattle.output.proofs.Counting.{cap-above, cap-within}
 use Rattle.put_number.specs.Lays.{Lays}

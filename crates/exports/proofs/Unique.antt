@@ -2,8 +2,6 @@
 -- a batch that passes answers is the last message, and a row has one import.
 -- Assumes nothing.
 use mathlib.Core.Path.{◌≡◌, sym, ap, subst, ◌∙◌}
-use mathlib.Core.List.{List}
-use Prim.Native.Nat.{ℕ}
 use native.Mathlib.Omega.{arith}
 use lib.ListN.{length, length-drop}
 use Rattle.desk.specs.declared.BatchFound.{BatchFound}

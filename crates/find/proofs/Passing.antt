@@ -3,14 +3,14 @@
 use mathlib.Core.Path.{◌≡◌, refl, sym, ◌∙◌}
 use mathlib.Core.Bool.{Bool, true, false}
 use mathlib.Core.List.{List}
-use Prim.Native.Nat.{ℕ, ◌+◌, ◌<◌, ◌≤◌}
+use Prim.Native.Nat.{ℕ, ◌+◌, ◌≤◌}
 use native.Mathlib.Omega.{arith}
 use lib.ListN.{get_or-eq_default}
 use lib.Dec.{ltb}
 use Rattle.wire.specs.declared.Refusal.TheVariants.{BadOption}
 use Rattle.wire.specs.declared.Item.{Item}
 use Rattle.wire.specs.Tests.{pick, decided}
-use Rattle.wire.specs.Shape.{unit, Kind, plain, pooled, option, sequence, map, struct, enum, same_kind}
+use Rattle.wire.specs.Shape.{unit, plain, same_kind}
 use Rattle.wire.specs.Table.{kinds, kind_of, Node}
 use Rattle.wire.specs.Numbers.{took}
 use Rattle.wire.specs.Reading.{flag}

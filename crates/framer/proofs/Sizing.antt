@@ -10,7 +10,7 @@ use lib.ListN.{length, get_or, take, drop, length-append, length-drop}
 use lib.Seq.{drop-cons, drop-drop, get_or-drop, length-take-le, split_at, take-suc}
 use Rattle.wire.specs.Tests.{pick}
 use Rattle.wire.specs.Frames.{to_zero}
-use Rattle.wire.specs.Sending.{encode, frame, group}
+use Rattle.wire.specs.Sending.{encode, frame}
 use Rattle.laws.proofs.Splits.{by-eq}
 use Rattle.decoder.proofs.Search.{clean-both}
 use Rattle.framing.proofs.Groups.{by-groups}

@@ -10,12 +10,12 @@ use native.Mathlib.Nat.{sub-zero}
 use native.Mathlib.Omega.{arith}
 use lib.ListN.{length, drop, replicate}
 use lib.Seq.{drop-drop}
-use borrow.Author.Tests.{eq-eqb, not-true, not-false}
+use borrow.Author.Tests.{eq-eqb, not-true}
 use Rattle.wire.specs.Tests.{both}
 use Rattle.laws.proofs.Splits.{by-test, not-both}
 use Rattle.desk.specs.declared.Key.{Key}
 use Rattle.desk.specs.declared.Row.{Row}
-use Rattle.desk.specs.Rows.{same_key, not_after, or_else, some_if, last_row, row_at, rows_at}
+use Rattle.desk.specs.Rows.{same_key, not_after, or_else, some_if, last_row, rows_at}
 use Rattle.batches.specs.Sorted.{is_sorted, tally}
 use Rattle.batches.proofs.Order.{same_key_lem, key-itself, some-itself, tail-sorted, next-after, first-least, by_before}
 use Rattle.batches.proofs.Found.{tally-behind}

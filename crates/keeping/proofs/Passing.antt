@@ -4,7 +4,7 @@ use mathlib.Core.Path.{◌≡◌, refl, sym, ap, ◌∙◌, subst}
 use mathlib.Core.Bool.{Bool, true, false}
 use mathlib.Core.List.{List, [], ◌∷◌, ◌++◌, append-nil}
 use mathlib.Core.Option.{Option, none, some}
-use Prim.Native.Nat.{ℕ, ◌+◌, ◌-◌, ◌/◌, ◌≤◌, ◌<◌}
+use Prim.Native.Nat.{ℕ, ◌+◌, ◌-◌, ◌≤◌, ◌<◌}
 use native.Mathlib.Omega.{arith}
 use lib.ListN.{length, take, drop, length-append}
 use borrow.Author.Tests.{eq-eqb, eqb-true}
@@ -30,7 +30,6 @@ use Rattle.messages.specs.declared.NextMessage.{NextMessage}
 use Rattle.messages.specs.declared.NextMessage.TheVariants.{Message as Is, Stops}
 use Rattle.messages.specs.Steps.{next_answer}
 use Rattle.messages.proofs.SoFar.{Told, told, stopped, SoFar, begin, one_more, step, step_less, step-inside, step-stops, step_end}
-use Rattle.keeping.specs.declared.Surveyed.{Surveyed}
 use Rattle.keeping.specs.Kept.{Good, survey_of}
 use Rattle.keeping.specs.Lasts.{LastAt, Lasts, InWindow}
 use Rattle.keeping.proofs.Lasting.{last-occurs}

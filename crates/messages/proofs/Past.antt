@@ -3,13 +3,13 @@
 use mathlib.Core.Path.{◌≡◌, refl, sym, ap, ◌∙◌}
 use mathlib.Core.Bool.{Bool, true, false, not}
 use mathlib.Core.List.{List, [], ◌∷◌}
-use Prim.Native.Nat.{ℕ, zero, suc, ◌+◌, ◌-◌, ◌*◌, ◌%◌, ◌≤◌, ◌<◌}
+use Prim.Native.Nat.{ℕ, suc, ◌+◌, ◌-◌, ◌*◌, ◌%◌, ◌≤◌, ◌<◌}
 use native.Mathlib.Nat.{add-zero, zero-add, mod-eq_of_lt}
 use native.Mathlib.Omega.{arith}
 use lib.ListN.{length, get_or, take, drop, length-drop}
 use lib.Seq.{drop-drop}
 use lib.Dec.{leb}
-use borrow.Author.Tests.{ne_eqb, le-leb, lt-leb}
+use borrow.Author.Tests.{ne_eqb, le-leb}
 use Rattle.wire.specs.declared.Layout.{Layout}
 use Rattle.wire.specs.declared.Own.{Own}
 use Rattle.wire.specs.declared.Refusal.{Refusal}
@@ -18,14 +18,13 @@ use Rattle.wire.specs.declared.ReadAnswer.TheVariants.{Done, Refused}
 use Rattle.wire.specs.declared.Item.{Item}
 use Rattle.wire.specs.declared.Item.TheVariants.{Took as Read, Refused as NotRead}
 use Rattle.wire.specs.Tests.{pick}
-use Rattle.wire.specs.Shape.{w16, w32, w64, Width, signed, unsigned, Sign, i8, u8, int}
+use Rattle.wire.specs.Shape.{w16, w32, w64, signed, unsigned, i8, u8, int}
 use Rattle.wire.specs.Table.{kinds, kind_of, u16_at, node_at, record_of, shapes_at}
-use Rattle.wire.specs.Numbers.{most, last, spelled, low, varint_f, varint, unzigzagged, on_first, word_of}
+use Rattle.wire.specs.Numbers.{most, last, spelled, low, varint_f, varint, on_first, word_of}
 use Rattle.wire.specs.Reading.{Spot, Run, head, read_plain, read_nothing, front, past, reading, within, fit}
 use Rattle.wire.specs.Walk.{all, walks}
 use Rattle.wire.specs.Answers.{read_answer}
 use Rattle.laws.specs.Tables.{GoodTable}
-use Rattle.laws.proofs.Splits.{by_le, by-lt}
 use Rattle.laws.proofs.Parts.{next, tail, length-tail}
 use Rattle.laws.proofs.Varints.{varints, varint-small, varint-more, took_in}
 use Rattle.table.specs.Parts.{Falls, row_step}
@@ -43,7 +42,7 @@ use Rattle.messages.specs.declared.NextMessage.{NextMessage}
 use Rattle.messages.specs.declared.NextMessage.TheVariants.{Message, Stops}
 use Rattle.messages.specs.Fields.{field_count, keys_of, key_width, key_by, HasKey, KeyedBy}
 use Rattle.messages.specs.Steps.{Goes, Words, next_answer}
-use Rattle.messages.specs.Past.{last_of, Uses, IsVarint, MostOf, is, other, PastVarint, passed, nowhere, PastRow, PastInts, Reads, PastKey, ReadsBoth, PastKeys}
+use Rattle.messages.specs.Past.{last_of, Uses, IsVarint, MostOf, is, other, PastVarint, passed, nowhere, PastRow, PastInts, PastKey, ReadsBoth, PastKeys}
 use Rattle.messages.proofs.Steps.{goes-as, goes_then, row-split}
 use Rattle.messages.proofs.Words.{leaf-goes, word-took, falls-fewer}
 use Rattle.messages.proofs.Keyed.{first-falls, second-falls, third-falls, third-stops, message-is, key-is}

@@ -1,9 +1,8 @@
 -- A byte that is no sign of its own: each test before the one that holds fails.
 -- Assumes nothing.
-use mathlib.Core.Path.{◌≡◌, refl}
+use mathlib.Core.Path.{◌≡◌}
 use mathlib.Core.List.{[], ◌∷◌}
 use Prim.Native.Nat.{ℕ, ◌<◌, ◌≤◌}
-use lib.Dec.{eqb, ltb}
 use borrow.Author.Tests.{ne_eqb, lt-ltb, le-ltb}
 use Rattle.wire.specs.Tests.{pick}
 use Rattle.desk.specs.Csv.{hex_of}

@@ -1,7 +1,7 @@
 -- The spelling of values for a reader.
 -- Assumes nothing.
-use Rattle.std.specs.Prelude.{Bool, true, false, List, [], ◌∷◌, ◌++◌, ℕ, ◌-◌, ◌^◌, eqb, ltb, leb, take}
-use Rattle.wire.specs.Tests.{pick, both}
+use Rattle.std.specs.Prelude.{Bool, true, List, [], ◌∷◌, ◌++◌, ℕ, ◌-◌, ◌^◌, eqb, ltb, take}
+use Rattle.wire.specs.Tests.{pick}
 use Rattle.desk.specs.Csv.{hex_of}
 
 -- a byte that would not show: below the space, or 127

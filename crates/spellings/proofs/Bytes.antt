@@ -1,38 +1,33 @@
 -- The message that an import writes is made of bytes; and so the exported rows are exactly the rows of all value lists.
 -- Assumes nothing.
-use mathlib.Core.Logic.{◌↔◌}
 use mathlib.Core.Path.{◌≡◌, refl, sym, ap, ◌∙◌}
 use mathlib.Core.Path as paths
 use mathlib.Core.Bool.{Bool, true, false}
 use mathlib.Core.List.{List, [], ◌∷◌, ◌++◌, append-nil}
-use mathlib.Core.Option.{Option, none, some, some-injective, none-ne-some}
-use Prim.Native.Nat.{ℕ, zero, suc, ◌+◌, ◌-◌, ◌%◌, ◌/◌, ◌<◌, ◌≤◌, ◌^◌}
+use mathlib.Core.Option.{some, some-injective, none-ne-some}
+use Prim.Native.Nat.{ℕ, zero, suc, ◌+◌, ◌-◌, ◌%◌, ◌/◌, ◌<◌, ◌≤◌}
 use native.Mathlib.Omega.{arith}
 use lib.Dec.{ltb, leb, eqb}
 use lib.ListN.{length}
-use borrow.Author.Tests.{ltb-true, leb-true, eqb-true, le-leb}
-use Rattle.wire.specs.declared.Layout.{Layout}
-use Rattle.wire.specs.declared.Checked.{Checked}
-use Rattle.wire.specs.declared.Checked.TheVariants.{Good, Bad}
-use Rattle.wire.specs.Tests.{pick, given, both}
-use Rattle.wire.specs.Shape.{w64, bits, size, signed, unsigned, Order, Plain, bool, i8, u8, f32, f64, char, unit, int, fixed, Content, text, raw, Kind, plain, pooled, option, sequence, map, struct, enum, Shape, Shapes, none as no_shape, more}
-use Rattle.wire.specs.Table.{check, shape_of}
-use Rattle.wire.specs.Values.{Value, number, content, part}
+use borrow.Author.Tests.{ltb-true, leb-true, le-leb}
+use Rattle.wire.specs.Tests.{pick, both}
+use Rattle.wire.specs.Shape.{w64, size, Plain, bool, i8, u8, f32, f64, char, unit, int, fixed, Content, text, raw, Kind, plain, pooled, option, sequence, map, struct, enum, Shape, Shapes, none as no_shape, more}
+use Rattle.wire.specs.Table.{shape_of}
+use Rattle.wire.specs.Values.{Value, number, content}
 use Rattle.wire.specs.Numbers.{shortest_f, shortest, little_bytes, in_order, zigzagged, most}
-use Rattle.wire.specs.Text.{utf8_f, utf8, width_of, low_of, high_of, is_char, char_bytes}
-use Rattle.wire.specs.Reading.{is_content}
+use Rattle.wire.specs.Text.{utf8_f, utf8, width_of, low_of, high_of, char_bytes}
 use Rattle.wire.specs.Writing.{when, single, with_count, plain_bytes, head_bytes}
 use Rattle.laws.specs.Range.{AreBytes}
-use Rattle.laws.proofs.Splits.{by-test, by-lt, of-pick, not-both, both_left, both_right}
+use Rattle.laws.proofs.Splits.{by-lt, of-pick, not-both, both_left, both_right}
 use Rattle.laws.proofs.Bytes.{below-order}
 use Rattle.laws.proofs.Utf8.{width-high, char-text}
-use Rattle.desk.specs.Csv.{Style, numeral, one_char, any_text, hex, style_of_plain, style_of_content, style_of, are_bytes, may, may_all, row, Column, kind_of_root, columns, columns_of, styles_of, or_nothing, value_bytes, message_of, export_by, export_of, csv_export, bytes, within}
+use Rattle.desk.specs.Csv.{Style, style_of_content, style_of, are_bytes, may, may_all, row, Column, kind_of_root, columns, columns_of, styles_of, or_nothing, value_bytes, message_of, export_by, export_of, csv_export, bytes, within}
 use Rattle.spellings.proofs.Written.{Short, content-fits, leaf-no-content, no_number}
 use Rattle.spellings.proofs.Writes.{content-bytes}
-use Rattle.spellings.proofs.Tables.{Column-more, column-more, Rooted, rooted}
+use Rattle.spellings.proofs.Tables.{column-more, rooted}
 use Rattle.spellings.proofs.Messages.{AllShort, message-reads}
 use Rattle.spellings.proofs.Lengths.{short_row}
-use Rattle.spellings.proofs.Trips.{Exported, was-exported, exported}
+use Rattle.spellings.proofs.Trips.{was-exported, exported}
 use Rattle.spellings.specs.Promises.{IsExported, ExportedExactly}
 
 -- ---- bytes

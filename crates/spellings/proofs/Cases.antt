@@ -1,6 +1,6 @@
 -- Each example holds by computing both sides.
 -- Assumes nothing.
-use mathlib.Core.Path.{◌≡◌, refl}
+use mathlib.Core.Path.{refl}
 use Rattle.wire.proofs.Cases.{computing}
 use Rattle.desk.specs.Csv.{integers, style_of_plain, style_of_content, style_of, are_bytes, in_range, may, digits_f, decimal, spelled_word, digit_of, hex_of, hexes, doubled, quoted, spelled, later, row, may_all, and_column, kind_of_root, columns, columns_of, styles_of, within, csv_answer, out_after, csv_says, field_values, export_run, export_read, export_of, export_by, csv_export, or_nothing, value_bytes, message_of}
 use Rattle.desk.specs.Cases.{one_field}

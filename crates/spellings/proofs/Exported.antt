@@ -1,27 +1,26 @@
 -- A message that is read to its end has values that its columns may have.
 -- Assumes nothing.
-use mathlib.Core.Path.{◌≡◌, refl, sym, ap, ◌∙◌}
+use mathlib.Core.Path.{◌≡◌, refl, sym}
 use mathlib.Core.Path as paths
-use mathlib.Core.Bool.{Bool, true, false}
+use mathlib.Core.Bool.{true}
 use mathlib.Core.List.{List, [], ◌∷◌, ◌++◌, append-nil}
 use mathlib.Core.List as lists
-use mathlib.Core.Option.{Option, none, some, some-injective}
-use Prim.Native.Nat.{ℕ, ◌+◌, ◌<◌, ◌≤◌, ◌^◌}
-use native.Mathlib.Omega.{arith}
-use lib.ListN.{length, drop}
+use mathlib.Core.Option.{some, some-injective}
+use Prim.Native.Nat.{ℕ, ◌+◌}
+use lib.ListN.{drop}
 use lib.Seq.{drop-drop}
 use Rattle.wire.specs.declared.Refusal.{Refusal}
 use Rattle.wire.specs.declared.Item.{Item}
 use Rattle.wire.specs.declared.Item.TheVariants.{Took, Refused}
-use Rattle.wire.specs.Tests.{pick, given, both}
+use Rattle.wire.specs.Tests.{pick}
 use Rattle.wire.specs.Shape.{Kind, struct, Shape, node, Shapes, none as no_shape, more, count}
-use Rattle.wire.specs.Walk.{Follow, each, following, all, times, along, walk, walks}
-use Rattle.wire.specs.Values.{Entry, Tag, Told, kept, told_after, tell_nothing, tell_on, tell_then, telling, tell, Value, number, content, value_of, is_pooled, Valued, whole, valued, values}
-use Rattle.wire.specs.Reading.{Spot, front, Run, Outcome, reached, refused, head, run_after, read_nothing, read_on, read_then, past, enter, read_item, reading, read}
+use Rattle.wire.specs.Walk.{following, all, times, along, walk, walks}
+use Rattle.wire.specs.Values.{Entry, Tag, kept, told_after, tell_nothing, tell_on, tell_then, telling, Value, number, value_of, is_pooled, whole, valued, values}
+use Rattle.wire.specs.Reading.{Spot, front, Run, reached, refused, head, run_after, read_nothing, read_on, read_then, past, enter, read_item, reading, read}
 use Rattle.laws.specs.Range.{AreBytes}
 use Rattle.laws.proofs.Splits.{both_yes}
 use Rattle.desk.specs.Csv.{Style, style_of, may, may_all, Column, kind_of_root, columns, columns_of, styles_of}
-use Rattle.spellings.proofs.Tables.{Column-more, column-more, Rooted, rooted}
+use Rattle.spellings.proofs.Tables.{column-more, Rooted, rooted}
 use Rattle.spellings.proofs.Written.{Short, alone}
 use Rattle.spellings.proofs.Taken.{OfTook, Says, kind-taken}
 use Rattle.spellings.proofs.Messages.{AllShort, tell-field, struct-reads, struct_tells}

@@ -1,15 +1,15 @@
 -- How an acceptor's steps are put together and taken apart.
 -- Assumes nothing.
-use mathlib.Core.Path.{◌≡◌, refl, sym, ap, ◌∙◌}
+use mathlib.Core.Path.{◌≡◌, refl, sym}
 use mathlib.Core.Path as paths
 use mathlib.Core.Bool.{Bool, true, false}
 use mathlib.Core.List.{List, [], ◌∷◌, ◌++◌, append-nil, append_assoc}
-use mathlib.Core.Option.{Option, none, some, some-injective, none-ne-some}
+use mathlib.Core.Option.{none, some, some-injective, none-ne-some}
 use Prim.Native.Nat.{ℕ}
 use lib.Dec.{eqb}
 use borrow.Author.Tests.{eqb-true}
 use Rattle.wire.specs.Tests.{pick, both}
-use Rattle.laws.proofs.Splits.{by-test, not-both}
+use Rattle.laws.proofs.Splits.{by-test}
 use Rattle.spellings.specs.Accept.{Acceptor, when}
 use Rattle.spellings.specs.Exact.{Goes, stays, steps, is_separator}
 

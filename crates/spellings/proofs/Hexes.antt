@@ -2,20 +2,20 @@
 -- Assumes nothing.
 use mathlib.Core.Path.{◌≡◌, refl, sym, ap, ◌∙◌}
 use mathlib.Core.Path as paths
-use mathlib.Core.Bool.{Bool, true, false}
+use mathlib.Core.Bool.{true, false}
 use mathlib.Core.List.{List, [], ◌∷◌, ◌++◌, append-nil, append_assoc}
 use mathlib.Core.Option.{Option, none, some, some-injective, none-ne-some}
-use Prim.Native.Nat.{ℕ, zero, suc, ◌+◌, ◌-◌, ◌*◌, ◌/◌, ◌%◌, ◌<◌, ◌≤◌}
+use Prim.Native.Nat.{ℕ, ◌+◌, ◌-◌, ◌*◌, ◌/◌, ◌%◌, ◌<◌, ◌≤◌}
 use native.Mathlib.Omega.{arith}
 use lib.Dec.{ltb, leb, eqb}
-use borrow.Author.Tests.{ltb-true, leb-true, leb-false, eqb-true, lt-ltb, le-ltb, le-leb, lt-leb, eq-eqb, ne_eqb}
-use Rattle.wire.specs.Tests.{pick, given, both}
+use borrow.Author.Tests.{ltb-true, leb-true, eqb-true, lt-ltb, le-ltb, le-leb, lt-leb, ne_eqb}
+use Rattle.wire.specs.Tests.{pick, both}
 use Rattle.wire.specs.Values.{Value, number, content}
-use Rattle.laws.proofs.Splits.{by-test, by-lt, by_le, not-both, both_yes, both_left, both_right}
+use Rattle.laws.proofs.Splits.{by-test, by-lt, not-both, both_yes, both_left, both_right}
 use Rattle.desk.specs.Csv.{quote, hex, are_bytes, may, digit_of, hexes, hex_of, quoted, spelled, Begins}
-use Rattle.spellings.specs.Accept.{Acceptor, pairs, acceptor, when, is_digit, Hexing, before, even, odd, closed, hex_value, high, low, hex_step, hexed_value}
-use Rattle.spellings.specs.Exact.{Goes, stays, steps, Whole, is_separator, Exact, styled, ExactStyle}
-use Rattle.spellings.proofs.Going.{when-some, when_true, when_false, both-no, by-separator, one, goes_on, everywhere}
+use Rattle.spellings.specs.Accept.{pairs, acceptor, when, is_digit, Hexing, before, even, odd, closed, hex_value, high, low, hex_step, hexed_value}
+use Rattle.spellings.specs.Exact.{Goes, stays, steps, Whole, is_separator, styled, ExactStyle}
+use Rattle.spellings.proofs.Going.{when-some, when_true, one, goes_on, everywhere}
 use Rattle.spellings.proofs.Numerals.{is_digit_lem, digit-is}
 
 -- ---- digits

@@ -1,15 +1,14 @@
 -- A row is no shorter than a text or bytes in it.
 -- Assumes nothing.
-use mathlib.Core.Path.{◌≡◌, refl, sym}
-use mathlib.Core.Bool.{Bool, true, false}
+use mathlib.Core.Path.{◌≡◌, refl}
+use mathlib.Core.Bool.{true}
 use mathlib.Core.List.{List, [], ◌∷◌, ◌++◌}
 use Prim.Native.Nat.{ℕ, ◌+◌, ◌<◌, ◌≤◌, ◌^◌}
 use native.Mathlib.Omega.{arith}
 use lib.Dec.{eqb}
 use lib.ListN.{length, length-append}
-use Rattle.wire.specs.Tests.{pick, both}
 use Rattle.wire.specs.Values.{Value, number, content}
-use Rattle.laws.proofs.Splits.{by-test, of-pick, not-both, both_left, both_right}
+use Rattle.laws.proofs.Splits.{of-pick, not-both, both_left, both_right}
 use Rattle.desk.specs.Csv.{quote, Style, numeral, one_char, any_text, hex, may, hexes, hex_of, doubled, quoted, spelled, may_all, row, later}
 use Rattle.spellings.proofs.Written.{Short}
 use Rattle.spellings.proofs.Messages.{AllShort}

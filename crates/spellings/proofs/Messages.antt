@@ -2,30 +2,29 @@
 -- Assumes nothing.
 use mathlib.Core.Path.{◌≡◌, refl, sym, ap, ◌∙◌}
 use mathlib.Core.Path as paths
-use mathlib.Core.Bool.{Bool, true, false}
+use mathlib.Core.Bool.{true}
 use mathlib.Core.List.{List, [], ◌∷◌, ◌++◌, append-nil, append_assoc}
 use mathlib.Core.List as lists
-use mathlib.Core.Option.{Option, none, some, some-injective, none-ne-some}
-use Prim.Native.Nat.{ℕ, zero, suc, ◌+◌, ◌-◌, ◌<◌, ◌≤◌, ◌^◌}
+use mathlib.Core.Option.{some, some-injective}
+use Prim.Native.Nat.{ℕ, ◌+◌, ◌-◌, ◌≤◌}
 use native.Mathlib.Omega.{arith}
 use native.Mathlib.Nat.{zero-add}
-use lib.Dec.{leb}
 use lib.ListN.{length, drop, length-append}
 use lib.Seq.{drop-append_seam}
 use borrow.Author.Tests.{leb-true}
-use Rattle.wire.specs.Tests.{pick, given, both}
-use Rattle.wire.specs.Shape.{Kind, plain, pooled, struct, Shape, node, Shapes, none as no_shape, more, count}
-use Rattle.wire.specs.Walk.{Follow, each, following, is_known, all, times, along, walk, walks}
+use Rattle.wire.specs.Tests.{pick, given}
+use Rattle.wire.specs.Shape.{Kind, struct, Shape, node, Shapes, none as no_shape, more, count}
+use Rattle.wire.specs.Walk.{following, is_known, all, times, along, walk, walks}
 use Rattle.wire.specs.Numbers.{took}
-use Rattle.wire.specs.Values.{Entry, Tag, Told, kept, lacks, short as too_few, told_after, tell_nothing, tell_on, tell_then, tell_item, telling, tell, Value, number, content, value_of, is_pooled, Valued, whole, valued, values}
-use Rattle.wire.specs.Reading.{Spot, Run, Outcome, reached, refused, head, run_after, read_nothing, read_on, read_then, past, enter, read_item, reading, read, within, fit}
+use Rattle.wire.specs.Values.{Entry, Tag, Told, kept, lacks, short as too_few, told_after, tell_nothing, tell_on, tell_then, tell_item, telling, tell, Value, number, value_of, is_pooled, whole, valued, values}
+use Rattle.wire.specs.Reading.{Spot, reached, head, run_after, read_nothing, read_on, read_then, past, enter, read_item, reading, read}
 use Rattle.laws.proofs.Splits.{not-both, both_left, both_right}
 use Rattle.laws.proofs.Parts as parts
-use Rattle.laws.proofs.Runs.{then-nothing, within-reached}
-use Rattle.laws.proofs.Heads.{tag, ItemBack, head-back}
-use Rattle.desk.specs.Csv.{Style, style_of, may, may_all, Column, and_column, kind_of_root, columns, columns_of, styles_of, most_fields, value_bytes, message_of}
-use Rattle.spellings.proofs.Tables.{Column-more, column-more, Rooted, rooted}
-use Rattle.spellings.proofs.Written.{Written, Short, kind-written, alone, any-count}
+use Rattle.laws.proofs.Runs.{then-nothing}
+use Rattle.laws.proofs.Heads.{head-back}
+use Rattle.desk.specs.Csv.{Style, style_of, may, may_all, Column, kind_of_root, columns, columns_of, styles_of, most_fields, value_bytes, message_of}
+use Rattle.spellings.proofs.Tables.{column-more, Rooted, rooted}
+use Rattle.spellings.proofs.Written.{Short, kind-written, alone, any-count}
 
 -- ---- one field
 

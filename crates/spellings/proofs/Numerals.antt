@@ -1,21 +1,21 @@
 -- Numbers in decimal: their acceptor is exact.
 -- Assumes nothing.
-use mathlib.Core.Path.{◌≡◌, refl, sym, ap, ◌∙◌}
+use mathlib.Core.Path.{◌≡◌, refl}
 use mathlib.Core.Path as paths
-use mathlib.Core.Bool.{Bool, true, false}
+use mathlib.Core.Bool.{true}
 use mathlib.Core.List.{List, [], ◌∷◌, ◌++◌, append-nil}
-use mathlib.Core.Option.{Option, none, some, some-injective, none-ne-some}
+use mathlib.Core.Option.{none, some, some-injective, none-ne-some}
 use Prim.Native.Nat.{ℕ, zero, suc, ◌+◌, ◌-◌, ◌*◌, ◌/◌, ◌%◌, ◌^◌, ◌<◌, ◌≤◌}
 use native.Mathlib.Omega.{arith}
 use lib.Dec.{ltb, leb, eqb}
-use borrow.Author.Tests.{ltb-true, leb-true, leb-false, eqb-true, lt-ltb, le-leb, lt-leb, eq-eqb, ne_eqb}
+use borrow.Author.Tests.{ltb-true, leb-true, eqb-true, lt-ltb, le-leb, lt-leb, ne_eqb}
 use Rattle.wire.specs.Tests.{pick, given, both}
 use Rattle.wire.specs.Values.{Value, number, content}
 use Rattle.laws.proofs.Splits.{by-test, by-lt, by_le, not-both, both_yes, both_left, both_right}
 use Rattle.desk.specs.Csv.{minus, numeral, in_range, may, digits_f, decimal, spelled_word, spelled, Begins}
-use Rattle.spellings.specs.Accept.{Acceptor, numbers, acceptor, when, Figure, nothing, minused, plus, under, is_digit, another, first, figure_step, figure_value}
-use Rattle.spellings.specs.Exact.{Goes, stays, steps, Whole, is_separator, Exact, styled, ExactStyle}
-use Rattle.spellings.proofs.Going.{when-some, when_true, when_false, both-no, by-separator, one, goes_on, everywhere}
+use Rattle.spellings.specs.Accept.{Acceptor, numbers, acceptor, Figure, nothing, minused, plus, under, is_digit, another, first, figure_step, figure_value}
+use Rattle.spellings.specs.Exact.{Goes, steps, Whole, is_separator, styled, ExactStyle}
+use Rattle.spellings.proofs.Going.{when-some, when_true, when_false, by-separator, one, goes_on, everywhere}
 
 -- ---- digits
 

@@ -10,7 +10,7 @@ use Prim.Native.Nat.{ℕ}
 use Rattle.wire.specs.Values.{Value}
 use Rattle.desk.specs.Csv.{Style, Spelling, Begins, Blocked, ends, wrong, Stops, may_all, row, exported_rows, styles_of}
 use Rattle.spellings.specs.Accept.{Parsed, took, stopped, parse}
-use Rattle.spellings.specs.Exact.{AllExact, Judged, reads, stops, Reads}
+use Rattle.spellings.specs.Exact.{AllExact, Judged, reads, stops}
 use Rattle.spellings.specs.Promises.{RowPromise, RowsThereAndBack}
 use Rattle.spellings.proofs.Scheme.{rows-judged}
 use Rattle.spellings.proofs.Tables.{all-exact}

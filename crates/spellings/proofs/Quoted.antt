@@ -4,22 +4,22 @@ use mathlib.Core.Path.{◌≡◌, refl, sym, ap, ◌∙◌}
 use mathlib.Core.Path as paths
 use mathlib.Core.Bool.{Bool, true, false}
 use mathlib.Core.List.{List, [], ◌∷◌, ◌++◌, append-nil, append_assoc, head-eq_of_cons-eq, tail-eq_of_cons-eq}
-use mathlib.Core.Option.{Option, none, some, some-injective, none-ne-some}
-use Prim.Native.Nat.{ℕ, zero, suc, ◌+◌, ◌-◌, ◌*◌, ◌/◌, ◌%◌, ◌<◌, ◌≤◌}
+use mathlib.Core.Option.{none, some, some-injective, none-ne-some}
+use Prim.Native.Nat.{ℕ, zero, suc, ◌+◌, ◌-◌, ◌/◌, ◌<◌, ◌≤◌}
 use native.Mathlib.Omega.{arith}
 use lib.Dec.{ltb, leb, eqb}
-use lib.ListN.{length, take, length-append, replicate, length-replicate}
+use lib.ListN.{length, take, length-append}
 use lib.Seq.{take-length}
-use borrow.Author.Tests.{ltb-true, leb-true, leb-false, eqb-true, eqb-false, lt-ltb, le-ltb, le-leb, lt-leb, eq-eqb, ne_eqb}
-use Rattle.wire.specs.Tests.{pick, given, both}
+use borrow.Author.Tests.{ltb-true, leb-true, eqb-true, eqb-false, lt-ltb, le-leb, ne_eqb}
+use Rattle.wire.specs.Tests.{pick, both}
 use Rattle.wire.specs.Values.{Value, number, content}
 use Rattle.wire.specs.Text.{utf8_f, utf8, width_of, low_of, high_of, first_char, is_char, char_bytes}
-use Rattle.laws.proofs.Splits.{by-test, by-lt, by_le, by-eq, of-pick, not-both, both_yes, both_left, both_right}
+use Rattle.laws.proofs.Splits.{by-test, by-lt, by-eq, of-pick, not-both, both_yes, both_left, both_right}
 use Rattle.laws.proofs.Utf8.{width_one, width_two, width_three, width_four, char-one, char-two, char-three, char-four, char_below, char-text, first-char-of}
 use Rattle.desk.specs.Csv.{quote, one_char, any_text, may, doubled, quoted, spelled, Begins}
-use Rattle.spellings.specs.Accept.{Acceptor, quotes, acceptor, when, Quoting, outside, inside, at_quote, may_follow, quote_step, char_value, quoted_value}
-use Rattle.spellings.specs.Exact.{Goes, stays, steps, Whole, is_separator, Exact, styled, ExactStyle}
-use Rattle.spellings.proofs.Going.{when-some, when_true, when_false, both-no, by-separator, one, goes_on, everywhere}
+use Rattle.spellings.specs.Accept.{quotes, acceptor, when, Quoting, outside, inside, at_quote, may_follow, quote_step, char_value, quoted_value}
+use Rattle.spellings.specs.Exact.{Goes, stays, steps, Whole, is_separator, styled, ExactStyle}
+use Rattle.spellings.proofs.Going.{when-some, when_true, when_false, by-separator, one, everywhere}
 
 -- ---- doubled quotes
 

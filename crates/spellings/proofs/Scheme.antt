@@ -5,15 +5,15 @@ use mathlib.Core.Path as paths
 use mathlib.Core.Bool.{Bool, true, false}
 use mathlib.Core.List.{List, [], ◌∷◌, ◌++◌, append-nil, append_assoc, append_cancel_left, nil≢cons, head-eq_of_cons-eq, tail-eq_of_cons-eq}
 use mathlib.Core.Option.{Option, none, some, some-injective, none-ne-some}
-use Prim.Native.Nat.{ℕ, zero, suc, ◌+◌}
+use Prim.Native.Nat.{ℕ, ◌+◌}
 use native.Mathlib.Omega.{arith}
 use lib.ListN.{length, length-append}
 use lib.Dec.{eqb}
 use borrow.Author.Tests.{eqb-true, eqb-false}
 use Rattle.wire.specs.Tests.{pick, given, both}
 use Rattle.wire.specs.Values.{Value}
-use Rattle.laws.proofs.Splits.{by-test, not-both, both_yes, both_left, both_right}
-use Rattle.desk.specs.Csv.{comma, Style, may, spelled, Spelling, Begins, Blocked, ends, wrong, Stops, may_all, row, later, exported_rows}
+use Rattle.laws.proofs.Splits.{not-both, both_yes, both_left, both_right}
+use Rattle.desk.specs.Csv.{comma, Style, spelled, Spelling, Begins, Blocked, ends, wrong, Stops, may_all, row, later, exported_rows}
 use Rattle.spellings.specs.Accept.{Acceptor, Scanned, scan, scan_on, moved, Parsed, took, stopped, past, with_value, must, finished, field_then, parse_field, parse_later, parse, acceptor}
 use Rattle.spellings.specs.Exact.{Goes, stays, steps, Whole, is_separator, Exact, styled, ExactStyle, AllExact, no_field, and_field, Judged, reads, stops, RowsJudged, Reads}
 

@@ -1,17 +1,17 @@
 -- The columns of every table that has rows are exact.
 -- Assumes nothing.
-use mathlib.Core.Path.{◌≡◌, refl, sym, ap, ◌∙◌}
+use mathlib.Core.Path.{◌≡◌, refl, sym}
 use mathlib.Core.Path as paths
-use mathlib.Core.Bool.{Bool, true, false}
-use mathlib.Core.List.{List, [], ◌∷◌}
+use mathlib.Core.Bool.{true}
+use mathlib.Core.List.{List, ◌∷◌}
 use mathlib.Core.Option.{Option, none, some, some-injective, none-ne-some}
-use Prim.Native.Nat.{ℕ, ◌+◌, ◌-◌, ◌<◌, ◌^◌}
+use Prim.Native.Nat.{◌-◌}
 use native.Mathlib.Omega.{arith}
 use lib.Dec.{leb}
 use Rattle.wire.specs.Tests.{pick, given, both, decided}
 use Rattle.wire.specs.Shape.{Width, w16, w32, w64, bits, Sign, signed, unsigned, Plain, bool, i8, u8, f32, f64, char, unit, int, fixed, Content, text, raw, Kind, plain, pooled, option, sequence, map, struct, enum, same_kind, Shape, node, Shapes, none as no_shape, more, count}
 use Rattle.laws.proofs.Splits.{by-test}
-use Rattle.desk.specs.Csv.{Style, numeral, one_char, any_text, hex, integers, style_of_plain, style_of_content, style_of, Column, and_column, kind_of_root, columns, columns_of, styles_of, most_fields}
+use Rattle.desk.specs.Csv.{Style, integers, style_of_plain, style_of_content, style_of, Column, and_column, kind_of_root, columns, columns_of, styles_of, most_fields}
 use Rattle.spellings.specs.Exact.{ExactStyle, AllExact, no_field, and_field}
 use Rattle.spellings.proofs.Numerals.{numeral-exact}
 use Rattle.spellings.proofs.Hexes.{hex-exact}

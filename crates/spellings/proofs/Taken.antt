@@ -1,35 +1,34 @@
 -- Every value that is read of a column's kind is one that the column may have.
 -- Assumes nothing.
-use mathlib.Core.Path.{◌≡◌, refl, sym, ap, ◌∙◌}
-use mathlib.Core.Path as paths
-use mathlib.Core.Bool.{Bool, true, false}
-use mathlib.Core.List.{List, [], ◌∷◌, ◌++◌}
-use mathlib.Core.Option.{Option, none, some, some-injective, none-ne-some}
-use Prim.Native.Nat.{ℕ, zero, suc, ◌+◌, ◌-◌, ◌*◌, ◌/◌, ◌%◌, ◌<◌, ◌≤◌, ◌^◌}
+use mathlib.Core.Path.{◌≡◌, refl}
+use mathlib.Core.Bool.{true}
+use mathlib.Core.List.{List, [], ◌∷◌}
+use mathlib.Core.Option.{some, some-injective, none-ne-some}
+use Prim.Native.Nat.{ℕ, suc, ◌+◌, ◌-◌, ◌/◌, ◌%◌, ◌<◌, ◌≤◌, ◌^◌}
 use native.Mathlib.Omega.{arith}
 use native.Mathlib.Nat.{one-le-pow}
 use lib.Dec.{ltb, leb, eqb}
 use lib.ListN.{length, take, drop, length-take}
 use lib.Seq.{drop-drop, length-take-le}
-use borrow.Author.Tests.{ltb-true, ltb-false, leb-true, eqb-true, eqb-false, lt-ltb, le-ltb, le-leb, lt-leb, eq-eqb}
+use borrow.Author.Tests.{ltb-true, ltb-false, leb-true, eqb-false, lt-ltb, le-leb}
 use Rattle.wire.specs.declared.Refusal.{Refusal}
 use Rattle.wire.specs.declared.Own.{Own}
 use Rattle.wire.specs.declared.Item.{Item}
 use Rattle.wire.specs.declared.Item.TheVariants.{Took, Refused}
-use Rattle.wire.specs.Tests.{pick, given, both}
-use Rattle.wire.specs.Shape.{Width, w16, w32, w64, bits, size, Order, le, Sign, signed, unsigned, Plain, bool, i8, u8, f32, f64, char, unit, int, fixed, Content, text, raw, Kind, plain, pooled, option, sequence, map, struct, enum}
-use Rattle.wire.specs.Values.{Value, number, content, part, value_of, is_pooled}
-use Rattle.wire.specs.Numbers.{signed_word, word, unzigzag, unzigzagged, on_first, little, in_order, word_of, varint, most, last}
-use Rattle.wire.specs.Text.{utf8, is_char, first_char}
+use Rattle.wire.specs.Tests.{pick, both}
+use Rattle.wire.specs.Shape.{Width, w64, bits, size, Order, le, Sign, signed, unsigned, Plain, bool, i8, u8, f32, f64, char, unit, int, fixed, Content, text, raw, Kind, plain, pooled, option, sequence, map, struct, enum}
+use Rattle.wire.specs.Values.{number, content, part, value_of, is_pooled}
+use Rattle.wire.specs.Numbers.{word, unzigzag, unzigzagged, on_first, little, in_order, word_of, varint}
+use Rattle.wire.specs.Text.{utf8}
 use Rattle.wire.specs.Reading.{flag, counted, char_of, is_content, content_of, read_plain, head}
-use Rattle.laws.specs.Range.{AreBytes, span}
-use Rattle.laws.proofs.Splits.{by-test, by-lt, by_le, of-pick, not-both, both_yes, both_left, both_right}
+use Rattle.laws.specs.Range.{AreBytes}
+use Rattle.laws.proofs.Splits.{by-lt, of-pick, not-both, both_yes, both_left, both_right}
 use Rattle.laws.proofs.Numbers.{Bits, bits8, bits32, bits64, bits_of, bytes-of-width, signed_low, signed_high}
 use Rattle.laws.proofs.Varints.{took_in, span-bits}
 use Rattle.laws.proofs.Bytes.{below-take, below-drop, front-lt}
 use Rattle.laws.proofs.Utf8.{first-char-of}
 use Rattle.laws.proofs.Heads.{tag}
-use Rattle.desk.specs.Csv.{Style, numeral, one_char, any_text, hex, integers, style_of_plain, style_of_content, style_of, are_bytes, in_range, may}
+use Rattle.desk.specs.Csv.{Style, numeral, one_char, integers, style_of_plain, style_of_content, style_of, are_bytes, in_range, may}
 use Rattle.spellings.proofs.Written.{Short}
 
 -- of an item that was taken

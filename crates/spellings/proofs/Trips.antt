@@ -5,7 +5,7 @@ use mathlib.Core.Path as paths
 use mathlib.Core.Bool.{Bool, true, false}
 use mathlib.Core.List.{List, [], ◌∷◌, ◌++◌}
 use mathlib.Core.Option.{Option, none, some}
-use Prim.Native.Nat.{ℕ, ◌+◌, ◌<◌, ◌≤◌, ◌^◌}
+use Prim.Native.Nat.{ℕ, ◌+◌, ◌<◌, ◌^◌}
 use native.Mathlib.Omega.{arith}
 use lib.Dec.{leb}
 use lib.ListN.{length}
@@ -16,11 +16,11 @@ use Rattle.wire.specs.Tests.{pick}
 use Rattle.wire.specs.Shape.{Shape}
 use Rattle.wire.specs.Table.{check, shape_of}
 use Rattle.laws.specs.Range.{AreBytes}
-use Rattle.wire.specs.Values.{Entry, SameValues, Value, number, content, Valued, whole, values}
+use Rattle.wire.specs.Values.{Entry, SameValues, Value, number, whole, values}
 use Rattle.wire.specs.Reading.{Spot, front, Outcome, reached, refused, Run, read, fit}
 use Rattle.laws.proofs.Splits.{by-test, not-both}
 use Rattle.laws.proofs.Runs.{within-reached, fit-reached}
-use Rattle.desk.specs.declared.CsvAnswer.TheVariants.{Refused, Unfit, NoRow}
+use Rattle.desk.specs.declared.CsvAnswer.TheVariants.{NoRow}
 use Rattle.desk.specs.Csv.{may_all, row, Column, columns_of, styles_of, Output, bytes, refusal, within, field_values, export_run, export_read, export_of, export_by, csv_export, message_of, Imported, row_of, stops_at, Imports, bad_table, unfit, fits}
 use Rattle.desk.specs.Path.{most_entries}
 use Rattle.spellings.specs.Accept.{Parsed, took, stopped, parse, import_parsed, import_of, import_by, csv_import}

@@ -3,27 +3,27 @@
 use mathlib.Core.Path.{◌≡◌, refl, sym, ap, ◌∙◌}
 use mathlib.Core.Path as paths
 use mathlib.Core.Bool.{Bool, true, false}
-use mathlib.Core.List.{List, [], ◌∷◌, ◌++◌, append-nil}
+use mathlib.Core.List.{List, [], ◌∷◌, append-nil}
 use mathlib.Core.List as lists
 use mathlib.Core.Option.{Option, none, some, some-injective, none-ne-some}
-use Prim.Native.Nat.{ℕ, ◌+◌, ◌≤◌}
+use Prim.Native.Nat.{ℕ, ◌+◌}
 use native.Mathlib.Omega.{arith}
 use lib.Dec.{leb, eqb}
-use lib.ListN.{length, take, drop}
+use lib.ListN.{length}
 use lib.Seq.{take-length}
 use borrow.Author.Tests.{le-leb, eqb-true}
-use Rattle.wire.specs.Tests.{pick, given, both}
-use Rattle.wire.specs.Shape.{Kind, plain, pooled, option, sequence, map, struct, enum, Content, Shape, node, Shapes, none as no_shape, more, count}
-use Rattle.wire.specs.Walk.{Follow, each, following, all, times, along, walk, walks}
-use Rattle.wire.specs.Values.{Entry, Tag, Told, kept, told_after, tell_nothing, tell_on, tell_then, telling, tell, Value, number, content, part, value_of, is_pooled, Valued, whole, valued, values}
+use Rattle.wire.specs.Tests.{pick, both}
+use Rattle.wire.specs.Shape.{Kind, plain, pooled, option, sequence, map, struct, enum, Content, node, Shapes, none as no_shape, more, count}
+use Rattle.wire.specs.Walk.{following, all, times, along, walk, walks}
+use Rattle.wire.specs.Values.{Entry, Tag, kept, told_after, tell_nothing, tell_on, tell_then, telling, Value, number, content, part, value_of, is_pooled, whole, valued, values}
 use Rattle.wire.specs.Reading.{is_content}
-use Rattle.wire.specs.Writing.{single, with_count, head_bytes, Left, Wrote, wrote, misfit, wrote_after, write_nothing, write_on, write_then, spell, write_entry, write_item, writing, write}
-use Rattle.laws.proofs.Splits.{not-both, both_yes, both_left, both_right}
+use Rattle.wire.specs.Writing.{single, with_count, head_bytes, Wrote, wrote, misfit, wrote_after, write_nothing, write_on, write_then, spell, write_entry, write_item, writing, write}
+use Rattle.laws.proofs.Splits.{not-both, both_yes, both_right}
 use Rattle.laws.proofs.Own.{when-yes, when-some, single-some}
 use Rattle.laws.proofs.Heads.{tag}
-use Rattle.desk.specs.Csv.{Style, style_of, Column, kind_of_root, columns, columns_of, styles_of, or_nothing, value_bytes, message_of}
+use Rattle.desk.specs.Csv.{Style, style_of, Column, kind_of_root, columns, or_nothing, value_bytes, message_of}
 use Rattle.spellings.specs.Promises.{WritesTheSame}
-use Rattle.spellings.proofs.Tables.{Column-more, column-more, Rooted, rooted}
+use Rattle.spellings.proofs.Tables.{column-more, rooted}
 use Rattle.spellings.proofs.Written.{alone, any-count}
 use Rattle.spellings.proofs.Messages.{tell-field, struct_tells}
 

@@ -1,30 +1,30 @@
 -- Every value that a column may have is written, and its words say the same again.
 -- Assumes nothing.
-use mathlib.Core.Path.{◌≡◌, refl, sym, ap, ◌∙◌}
+use mathlib.Core.Path.{◌≡◌, refl, sym, ◌∙◌}
 use mathlib.Core.Path as paths
-use mathlib.Core.Bool.{Bool, true, false}
-use mathlib.Core.List.{List, [], ◌∷◌, ◌++◌}
-use mathlib.Core.Option.{Option, none, some, some-injective, none-ne-some}
-use Prim.Native.Nat.{ℕ, zero, suc, ◌+◌, ◌-◌, ◌<◌, ◌≤◌, ◌^◌}
+use mathlib.Core.Bool.{true, false}
+use mathlib.Core.List.{List, []}
+use mathlib.Core.Option.{some, some-injective, none-ne-some}
+use Prim.Native.Nat.{ℕ, ◌+◌, ◌-◌, ◌<◌, ◌≤◌, ◌^◌}
 use native.Mathlib.Omega.{arith}
 use native.Mathlib.Nat.{one-le-pow}
-use lib.Dec.{ltb, leb, eqb}
-use lib.ListN.{length, take, drop}
+use lib.Dec.{ltb, leb}
+use lib.ListN.{length, take}
 use lib.Seq.{take-length}
-use borrow.Author.Tests.{ltb-true, leb-true, eqb-true, lt-ltb, le-ltb, le-leb, lt-leb, eq-eqb}
-use Rattle.wire.specs.Tests.{pick, given, both}
+use borrow.Author.Tests.{ltb-true, leb-true, eqb-true, lt-ltb, le-ltb, le-leb, lt-leb}
+use Rattle.wire.specs.Tests.{pick, both}
 use Rattle.wire.specs.Shape.{Width, w16, w32, w64, bits, Sign, signed, unsigned, Plain, bool, i8, u8, f32, f64, char, unit, int, fixed, Content, text, raw, Kind, plain, pooled, option, sequence, map, struct, enum}
-use Rattle.wire.specs.Walk.{Follow, each, following}
+use Rattle.wire.specs.Walk.{each, following}
 use Rattle.wire.specs.Values.{Value, number, content, part, value_of, is_pooled}
 use Rattle.wire.specs.Numbers.{is_signed_word, is_word}
-use Rattle.wire.specs.Text.{utf8, is_char}
+use Rattle.wire.specs.Text.{is_char}
 use Rattle.wire.specs.Reading.{is_content}
 use Rattle.wire.specs.Writing.{single, plain_bytes, head_bytes}
-use Rattle.laws.proofs.Splits.{by-test, by-lt, by_le, not-both, both_yes, both_left, both_right}
+use Rattle.laws.proofs.Splits.{by_le, not-both, both_yes, both_left, both_right}
 use Rattle.laws.proofs.Own.{when-yes, single-yes}
 use Rattle.laws.proofs.Utf8.{char_below}
 use Rattle.laws.proofs.Heads.{tag}
-use Rattle.desk.specs.Csv.{Style, numeral, one_char, any_text, hex, integers, style_of_plain, style_of_content, style_of, in_range, may, or_nothing, value_bytes}
+use Rattle.desk.specs.Csv.{Style, numeral, one_char, integers, style_of_plain, style_of_content, style_of, in_range, may, or_nothing, value_bytes}
 
 -- a value's words in a pool, its bytes, and that it is a word's worth
 pub record Written (k : Kind) (v : Value) : Type 0 where

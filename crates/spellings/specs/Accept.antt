@@ -1,7 +1,6 @@
 -- Rows read byte by byte: where each field's spelling ends, its value, or where the input stops being a row.
 -- Assumes nothing.
 use Rattle.std.specs.Prelude.{Bool, true, false, List, [], ◌∷◌, ◌++◌, ℕ, zero, suc, ◌+◌, ◌-◌, ◌*◌, ◌^◌, ltb, leb, eqb}
-use mathlib.Core.List as lists
 use Rattle.std.proofs.Math.Option.{Option, none, some}
 use Rattle.wire.specs.Tests.{pick, given, both}
 use Rattle.wire.specs.Values.{Value, number, content}

@@ -1,6 +1,6 @@
 -- Worked examples as data: a call, and what it must answer and leave in the output.
 -- Assumes nothing.
-use Rattle.std.specs.Prelude.{◌≡◌, List, [], ◌∷◌, ◌++◌, ℕ, length, replicate}
+use Rattle.std.specs.Prelude.{◌≡◌, List, [], ◌∷◌, ℕ, length, replicate}
 use mathlib.Core.List as lists
 use Rattle.wire.specs.Answers.{Numbered}
 use Rattle.wire.specs.Cases.{table_t, leaf_table}

@@ -1,10 +1,10 @@
 -- What is proved of acceptors: that they stop exactly where no spelling goes on.
 -- Assumes nothing.
-use Rattle.std.specs.Prelude.{◌≡◌, Bool, true, false, List, [], ◌∷◌, ◌++◌, ℕ, ◌+◌, ◌<◌, ◌^◌, eqb}
+use Rattle.std.specs.Prelude.{◌≡◌, Bool, true, List, [], ◌∷◌, ℕ, eqb}
 use Rattle.std.proofs.Math.Option.{Option, none, some}
-use Rattle.wire.specs.Tests.{pick, both}
+use Rattle.wire.specs.Tests.{pick}
 use Rattle.wire.specs.Values.{Value}
-use Rattle.desk.specs.Csv.{comma, Style, numeral, one_char, any_text, hex, may, spelled, Spelling, Begins, Stops, may_all, row, exported_rows}
+use Rattle.desk.specs.Csv.{comma, Style, may, spelled, Spelling, Begins, Stops, exported_rows}
 use Rattle.spellings.specs.Accept.{Acceptor, acceptor, Scanned, Parsed, took, stopped, parse}
 
 -- this value, and no other, is spelled so

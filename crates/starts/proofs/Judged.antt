@@ -1,28 +1,27 @@
 -- All rows of one window after the other, and then the counts, decide whether a batch is good.
 -- Assumes nothing.
-use mathlib.Core.Path.{◌≡◌, refl, sym, ap, ◌∙◌, subst}
-use mathlib.Core.Bool.{Bool, true, false, not}
+use mathlib.Core.Path.{◌≡◌, sym, ◌∙◌, subst}
+use mathlib.Core.Bool.{Bool, true, false}
 use mathlib.Core.List.{List}
-use Prim.Native.Nat.{ℕ, ◌+◌, ◌/◌, ◌≤◌, ◌<◌}
+use Prim.Native.Nat.{ℕ, ◌+◌, ◌≤◌, ◌<◌}
 use native.Mathlib.Omega.{arith}
 use lib.ListN.{length, get_or}
 use lib.Dec.{eqb}
 use borrow.Author.Tests.{eqb-true, eqb-false}
-use Rattle.laws.proofs.Splits.{by-test, by-lt, up_to, not-both}
+use Rattle.laws.proofs.Splits.{by-test, by-lt, up_to}
 use Rattle.desk.specs.declared.Row.{Row}
 use Rattle.desk.specs.Messages.{Keyed, is_keyed}
 use Rattle.desk.specs.Batch.{Parts}
 use Rattle.batches.specs.Search.{no_row}
 use Rattle.batches.specs.Sorted.{is_rising}
 use Rattle.batches.specs.Starts.{Starts, in-front, RowOf}
-use Rattle.batches.proofs.Rising.{of-not}
 use Rattle.batches.proofs.Standing.{falls-bad, wrong-bad, unread-bad, few-bad, all-good}
 use Rattle.row.specs.Ranks.{row_count, rows_in, Loaded}
 use Rattle.row.proofs.Bytes.{rows_get, length-rows_in}
 use Rattle.starts.specs.declared.Marked.{Marked}
 use Rattle.starts.specs.declared.Marked.TheVariants.{Upto, Stopped}
 use Rattle.starts.specs.Window.{Window, Marks, marks, unread, Placed, Stands, placed, wrong, AllStand, all_placed, one-wrong, Judges, good, bad}
-use Rattle.starts.proofs.Windows.{of-not-false, start-few}
+use Rattle.starts.proofs.Windows.{start-few}
 
 -- ---- the rows of a window
 

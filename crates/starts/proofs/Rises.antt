@@ -14,10 +14,8 @@ use Rattle.wire.specs.Tests.{both}
 use Rattle.desk.specs.declared.Row.{Row}
 use Rattle.desk.specs.Rows.{not_after, row_at, rows_at}
 use Rattle.batches.specs.Sorted.{is_rising}
-use Rattle.batches.proofs.Rising.{of-not}
 use Rattle.row.specs.Ranks.{row_count, rows_in, rank, Loaded}
 use Rattle.row.proofs.Ranks.{after-rank}
-use Rattle.starts.proofs.Windows.{of-not-false}
 
 rising-two : (m : ℕ) (t : List ℕ) → is_rising (rows_at (suc (suc m)) t) ≡ both (not (not_after (row_at (drop 16 t)) (row_at t))) (is_rising (rows_at (suc m) (drop 16 t)))
 unfolding rows_at is_rising

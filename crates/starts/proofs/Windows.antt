@@ -10,16 +10,15 @@ use lib.ListN.{length, take, drop, replicate}
 use lib.Dec.{ltb}
 use borrow.Author.Tests.{ltb-true, ltb-false}
 use Rattle.wire.specs.declared.Refusal.{Refusal}
-use Rattle.laws.proofs.Splits.{by-test, by-lt, by_le, by-eq, not-both}
+use Rattle.laws.proofs.Splits.{by-test, by-lt, by_le, not-both}
 use Rattle.laws.proofs.Parts.{tail}
 use Rattle.desk.specs.declared.Key.{Key}
 use Rattle.desk.specs.declared.Row.{Row}
 use Rattle.desk.specs.Rows.{same_key}
-use Rattle.desk.specs.Messages.{Keyed, is_keyed, Message, next, stops, next_of}
-use Rattle.batches.specs.Starts.{Starts, in-front, behind, RowOf}
+use Rattle.desk.specs.Messages.{Keyed, is_keyed, Message, next, next_of}
+use Rattle.batches.specs.Starts.{Starts, in-front, behind}
 use Rattle.batches.proofs.Order.{same_key_lem, key-itself}
 use Rattle.batches.proofs.Onward.{next-some}
-use Rattle.batches.proofs.Rising.{of-not}
 use Rattle.batches.proofs.Starting.{start-order, start-inside, start-before}
 use Rattle.bits.specs.Marks.{marked, marking}
 use Rattle.bits.proofs.Bits.{marking-only, marking-it, marking-keeps, length-marking, cleared}
@@ -28,7 +27,7 @@ use Rattle.messages.specs.declared.NextMessage.TheVariants.{Message as Is, Stops
 use Rattle.messages.specs.Fields.{HasKey}
 use Rattle.messages.specs.Steps.{next_answer}
 use Rattle.messages.proofs.SoFar.{Told, told, stopped}
-use Rattle.starts.specs.Window.{Start, Window, Marks, marks, unread, Placed, Stands, placed, wrong}
+use Rattle.starts.specs.Window.{Start, Window, Marks, marks, unread, Stands, placed, wrong}
 use Rattle.starts.specs.declared.Marked.TheVariants.{Upto, Stopped}
 
 pub of-not-false : (t : Bool) → not t ≡ false → t ≡ true

@@ -1,7 +1,6 @@
 -- How code points and texts stand to each other.
 -- Assumes nothing.
 use Rattle.std.specs.Prelude.{◌≡◌, true, List, ℕ, ◌<◌, length, take}
-use Rattle.wire.specs.Shape.{char}
 use Rattle.wire.specs.Text.{utf8, first_char, is_char, char_bytes}
 
 -- a code point's bytes are a text whose first char it is

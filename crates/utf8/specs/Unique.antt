@@ -1,7 +1,6 @@
 -- Each call's contract leaves no choice.
 -- Assumes nothing.
 use Rattle.std.specs.Prelude.{◌≡◌, Bool, List, ℕ}
-use Rattle.wire.specs.Shape.{char}
 use Rattle.wire.specs.Text.{utf8, first_char, is_char}
 use Rattle.laws.specs.Unique.{Unique}
 use Rattle.utf8.specs.Chars.{Form}

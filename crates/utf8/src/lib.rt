@@ -4,7 +4,7 @@
 ghost use Rattle.std.specs.Prelude.{◌≡◌, true, ◌+◌, ◌≤◌, leb, length, get_or, drop};
 ghost use Rattle.wire.specs.Tests.{both};
 ghost use Rattle.wire.specs.Text.{width_of, utf8, first_char, is_char};
-ghost use Rattle.singles.specs.Passed.{Start, Same};
+ghost use Rattle.singles.specs.Passed.{Start};
 ghost use Rattle.utf8.specs.Scan.{AreWidths, is_second, starts_three, Starts, Behind};
 ghost use Rattle.utf8.specs.Chars.{lead_of, over_of, Form};
 

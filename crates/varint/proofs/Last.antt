@@ -1,19 +1,17 @@
 -- A varint is the shortest of its number exactly if it is one byte, or its last byte is not 0: by induction on its bytes.
 -- Assumes nothing.
 use mathlib.Core.Path.{◌≡◌, refl, sym, ap, ◌∙◌}
-use mathlib.Core.Bool.{Bool, true}
+use mathlib.Core.Bool.{Bool}
 use mathlib.Core.List.{List, [], ◌∷◌}
 use Prim.Native.Nat.{ℕ, zero, suc, ◌+◌, ◌-◌, ◌*◌, ◌/◌, ◌%◌, ◌≤◌, ◌<◌}
 use native.Mathlib.Omega.{arith}
 use lib.Dec.{ltb, leb, eqb}
 use lib.ListN.{length, get_or}
 use borrow.Author.Tests.{leb-true, ltb-true, lt-ltb, le-ltb, eq-eqb, ne_eqb}
-use Rattle.wire.specs.declared.Own.{Own}
 use Rattle.wire.specs.declared.Item.{Item}
 use Rattle.wire.specs.declared.Item.TheVariants.{Took, Refused}
 use Rattle.wire.specs.Tests.{pick}
 use Rattle.wire.specs.Numbers.{most, spelled, low, varint_f, shortest_f, shortest}
-use Rattle.laws.specs.Range.{InRange}
 use Rattle.laws.proofs.Splits.{by-lt, by_le, by-eq, of-pick}
 use Rattle.laws.proofs.Varints.{in-range, varint-small, varint-more, shortest-small, shortest-more}
 use Rattle.varint.specs.Takes.{limit_of, takes, ends_short, ShortestByLast}

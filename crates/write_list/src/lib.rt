@@ -1,7 +1,7 @@
 // A value list gone through by a table: its entries are judged, and their bytes put behind one another.
 #![tactic(auto)]
 
-ghost use Rattle.std.specs.Prelude.{◌≡◌, ◌/◌, ◌<◌, ◌≤◌};
+ghost use Rattle.std.specs.Prelude.{◌≡◌, ◌<◌, ◌≤◌};
 ghost use Rattle.wire.specs.declared.Checked.TheVariants.{Good};
 ghost use Rattle.wire.specs.Table.{kind_of, node_at, record_of, shape_of};
 ghost use Rattle.wire.specs.Table.{check as check_of};

@@ -3,7 +3,7 @@
 use mathlib.Core.Path.{◌≡◌}
 use lib.ListN.{length}
 use Rattle.append.proofs.Matching.{Left}
-use Prim.Native.Nat.{ℕ, ◌+◌}
+use Prim.Native.Nat.{◌+◌}
 use Rattle.append.proofs.+compare_nodes_match.Given as goal
 
 abbrev pub decreases-compare : goal.decreases-compare

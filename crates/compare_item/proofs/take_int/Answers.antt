@@ -2,13 +2,12 @@
 -- Assumes nothing.
 use native.Mathlib.Omega.{arith}
 use mathlib.Core.Path.{◌∙◌}
-use mathlib.Core.Logic.{inl, inr}
 use Rattle.wire.specs.Shape.{w16, w32, w64}
 use Rattle.wire.specs.Numbers.{most, last}
 use Rattle.varint.proofs.Reading.{at_width}
 use Rattle.fixint.specs.Sizes.{byte_of}
 use Rattle.leaf.proofs.Leaves.{numbered}
-use Rattle.compare_item.proofs.Leaves.{ints-taken, signed_number, second-of, varints-taken, eighth}
+use Rattle.compare_item.proofs.Leaves.{ints-taken, signed_number, second-of, varints-taken}
 use Rattle.compare_item.proofs.take_int.Goals as goal
 
 pub returns-in-2 : goal.returns-in-2

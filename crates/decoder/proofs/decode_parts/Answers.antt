@@ -1,9 +1,7 @@
 -- `decoder::decode_parts` meets its contract: a frame in one part is decoded as it is; a zero in front makes the frame bad, and else the parts are joined and decoded.
 -- Assumes nothing.
-use mathlib.Core.Path.{◌≡◌, sym, ◌∙◌}
-use mathlib.Core.List.{◌++◌}
-use Prim.Native.Nat.{◌+◌}
-use lib.ListN.{length, take, length-append}
+use mathlib.Core.Path.{sym, ◌∙◌}
+use lib.ListN.{length-append}
 use Rattle.wire.specs.Frames.{room}
 use Rattle.decoder.proofs.Search.{found_at, found_none, clean-both}
 use Rattle.decoder.proofs.Chunks.{no_front, joined}

@@ -1,6 +1,6 @@
 -- `eights::number` meets its contract: two numbers of four bytes are the number of eight.
 -- Assumes nothing.
-use Prim.Native.Nat.{◌+◌, ◌<◌}
+use Prim.Native.Nat.{◌+◌}
 use native.Mathlib.Omega.{arith}
 use Rattle.eights.proofs.Bytes.{four-lt, both-number}
 use Rattle.eights.proofs.number.Goals as goal

@@ -1,13 +1,11 @@
 -- `utf8::after_fours` meets its contract: the loop's invariant is that what is to be said of the rest stays.
 -- Assumes nothing.
-use mathlib.Core.Path.{◌≡◌, refl, sym, ◌∙◌}
+use mathlib.Core.Path.{refl, sym, ◌∙◌}
 use Prim.Native.Nat.{◌+◌, ◌-◌}
 use native.Mathlib.Omega.{arith}
-use lib.ListN.{get_or}
-use Rattle.wire.specs.Text.{width_of}
 use Rattle.laws.proofs.Utf8.{width_four}
 use Rattle.singles.proofs.Passed.{here}
-use Rattle.utf8.proofs.Scan.{Scan, four-lead, to-f4, lacking, no_such, refused, bad-second, past-second, refuses, goes_on, done}
+use Rattle.utf8.proofs.Scan.{four-lead, to-f4, lacking, no_such, refused, bad-second, past-second, refuses, goes_on, done}
 use Rattle.utf8.proofs.after_fours.Goals as goal
 
 pub loop-i-init : goal.loop-i-init

@@ -5,7 +5,7 @@ use Prim.Native.Nat.{◌+◌, ◌-◌}
 use native.Mathlib.Omega.{arith}
 use Rattle.laws.proofs.Utf8.{width_three}
 use Rattle.singles.proofs.Passed.{here}
-use Rattle.utf8.proofs.Scan.{Scan, lacking, refused, no-three, past_three, refuses, goes_on, done}
+use Rattle.utf8.proofs.Scan.{lacking, refused, no-three, past_three, refuses, goes_on, done}
 use Rattle.utf8.proofs.after_threes.Goals as goal
 
 pub loop-i-init : goal.loop-i-init

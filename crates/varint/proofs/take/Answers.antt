@@ -1,6 +1,5 @@
 -- `varint::take` meets its contract: the loop's invariant is `Reading`.
 -- Assumes nothing.
-use Prim.Native.Nat.{◌-◌}
 use native.Mathlib.Nat.{mod-lt}
 use native.Mathlib.Omega.{arith}
 use lib.Dec.{lit<}

@@ -2,7 +2,7 @@
 -- Assumes nothing.
 use Prim.Native.Nat.{◌-◌}
 use lib.ListN.{length}
-use Rattle.varint.proofs.Reading.{Reading, part}
+use Rattle.varint.proofs.Reading.{Reading}
 use Rattle.varint.proofs.take.Given as goal
 
 abbrev pub invariant-loop-i : goal.invariant-loop-i

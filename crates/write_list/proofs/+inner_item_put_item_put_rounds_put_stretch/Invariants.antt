@@ -2,7 +2,7 @@
 -- from an item to those of its stretch.
 -- Assumes nothing.
 use mathlib.Core.Path.{◌≡◌}
-use Prim.Native.Nat.{ℕ, ◌+◌, ◌*◌}
+use Prim.Native.Nat.{◌+◌, ◌*◌}
 use lib.ListN.{length}
 use Rattle.wire.specs.Writing.{writing}
 use Rattle.table.specs.Parts.{Falls, row_step, rounds_step}

@@ -171,7 +171,7 @@ fn save_frame(rt: &impl Runtime, message: &[u8]) -> io::Result<()> {
         WriteAnswer::Refused { why, place } => {
             shown::say_refusal(rt, why, place, b"frame", files::LARGE)
         }
-        WriteAnswer::Done { place } => { files::save(rt, 3, front(&out, place)) }
+        WriteAnswer::Done { place } => files::save(rt, 3, front(&out, place)),
     }
 }
 

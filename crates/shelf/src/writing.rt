@@ -38,7 +38,7 @@ fn write(rt: &impl Runtime, table: &[u8], words: &[u64], pool: &[u8]) -> io::Res
             say(rt, b"refused: ")?;
             say_why(rt, why, b", at place #; nothing is written\n", place)
         }
-        WriteAnswer::Done { place } => { files::save(rt, 5, front(&out, place)) }
+        WriteAnswer::Done { place } => files::save(rt, 5, front(&out, place)),
     }
 }
 

@@ -3,19 +3,20 @@
 #![tactic(auto)]
 
 use say::{say, say_number};
+use std::io;
 use wire::{AskAnswer, ReadAnswer};
 
-fn say_counted(text: &[u8], n: u64) {
-    say(text);
-    say_number(n);
+fn say_counted(rt: &impl Print, text: &[u8], n: u64) -> io::Result<()> {
+    say(rt, text)?;
+    say_number(rt, n)
 }
 
-fn say_signed(text: &[u8], word: u64) {
-    say(text);
+fn say_signed(rt: &impl Print, text: &[u8], word: u64) -> io::Result<()> {
+    say(rt, text)?;
     if readable::is_negative(word) {
-        say(b"-");
+        say(rt, b"-")?;
     }
-    say_number(readable::size(word));
+    say_number(rt, readable::size(word))
 }
 
 // A work area for the append question.
@@ -23,44 +24,44 @@ fn work_area() -> [u8; append::AREA] {
     [0; append::AREA]
 }
 
-fn say_question(old: &[u8], new: &[u8]) {
+fn say_question(rt: &impl Print, old: &[u8], new: &[u8]) -> io::Result<()> {
     let mut area = work_area();
     match append::appends(old, new, &mut area) {
         AskAnswer::Says { yes } => {
             if yes {
-                say(b"yes, it only appends.\n");
+                say(rt, b"yes, it only appends.\n")
             } else {
-                say(b"no, it does not only append.\n");
+                say(rt, b"no, it does not only append.\n")
             }
         }
         AskAnswer::Refused {
             side: _,
             why: _,
             place: _,
-        } => say(b"a table is not good.\n"),
-        AskAnswer::ShortArea => say(b"the work area is too short.\n"),
+        } => say(rt, b"a table is not good.\n"),
+        AskAnswer::ShortArea => say(rt, b"the work area is too short.\n"),
     }
 }
 
 // What the old table reads: the entries behind the struct's own.
-fn say_reading(old: &[u8], message: &[u8]) {
+fn say_reading(rt: &impl Print, old: &[u8], message: &[u8]) -> io::Result<()> {
     let mut store = [0u64; 4 * entry::WORDS];
     match reader::read(old, message, &mut store) {
         ReadAnswer::Done { place: _, count: _ } => {
-            say_counted(b"The old table would read store ", store[entry::WORDS]);
-            say_counted(b", product ", store[2 * entry::WORDS]);
-            say_signed(b", count ", store[3 * entry::WORDS]);
-            say(b", and no error.\n");
+            say_counted(rt, b"The old table would read store ", store[entry::WORDS])?;
+            say_counted(rt, b", product ", store[2 * entry::WORDS])?;
+            say_signed(rt, b", count ", store[3 * entry::WORDS])?;
+            say(rt, b", and no error.\n")
         }
         ReadAnswer::Refused {
             why: _,
             place: _,
             count: _,
-        } => say(b"The old table would refuse it.\n"),
+        } => say(rt, b"The old table would refuse it.\n"),
     }
 }
 
-fn main() {
+fn main(rt: HostRuntime) -> io::Result<()> {
     // A struct of a store (u32), a product (u64) and a count (i32); and the same with a further u32, in front and at the end.
     let old = b"\x07\0\0\0\0\0\
         \x08\0\0\0\0\0\
@@ -80,11 +81,14 @@ fn main() {
         \x12\0\0\0\x04\0\
         \0\0\x01\0\x02\0\0\0\
         \x08\0\x20\0\x04\0\x03\0\x53\x50";
-    say(b"Counted: store 300, product 5, count -2. The new table adds a field, with 7 in it.\n\n");
-    say(b"The new table puts the field in front: ");
-    say_question(old, front);
-    say_reading(old, b"\x07\xac\x02\x05\x03");
-    say(b"\nThe new table puts the field at the end: ");
-    say_question(old, end);
-    say_reading(old, b"\xac\x02\x05\x03\x07");
+    say(
+        &rt,
+        b"Counted: store 300, product 5, count -2. The new table adds a field, with 7 in it.\n\n",
+    )?;
+    say(&rt, b"The new table puts the field in front: ")?;
+    say_question(&rt, old, front)?;
+    say_reading(&rt, old, b"\x07\xac\x02\x05\x03")?;
+    say(&rt, b"\nThe new table puts the field at the end: ")?;
+    say_question(&rt, old, end)?;
+    say_reading(&rt, old, b"\xac\x02\x05\x03\x07")
 }

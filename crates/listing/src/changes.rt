@@ -1,37 +1,38 @@
 // What differs between two messages: as pairs of places, and in words.
 use crate::tree::say_bad;
 use say::{say, say_why, say_with};
+use std::io;
 use wire::Refusal;
 
 // Why a comparison is refused: the table isn't good, or else the message of that name isn't.
-pub fn say_refused(name: &[u8], why: Refusal, place: usize) {
+pub fn say_refused(rt: &impl Print, name: &[u8], why: Refusal, place: usize) -> io::Result<()> {
     match why {
-        Refusal::Trailer | Refusal::Record => say_bad(why, place),
+        Refusal::Trailer | Refusal::Record => say_bad(rt, why, place),
         _ => {
-            say(name);
-            say(b": refused: ");
-            say_why(why, b", at byte #\n", place);
+            say(rt, name)?;
+            say(rt, b": refused: ")?;
+            say_why(rt, why, b", at byte #\n", place)
         }
     }
 }
 
 // So many pairs of places, each on a line.
-pub fn say_pairs(list: &[u64], count: usize) {
+pub fn say_pairs(rt: &impl Print, list: &[u64], count: usize) -> io::Result<()> {
     let mut rest = list;
-    let mut left = count;
-    while 0 < left {
+    for _ in 0..count {
         if rest.len() < 2 {
-            return;
+            return Ok(());
         }
-        say_with(b"# ", rest[0]);
-        say_with(b"#\n", rest[1]);
+        say_with(rt, b"# ", rest[0])?;
+        say_with(rt, b"#\n", rest[1])?;
         rest = &rest[2..];
-        left -= 1;
     }
+    Ok(())
 }
 
 // The last of the made entries, from one on, whose place isn't behind the given one. An item that differs has bytes, so what
 // shares its place stands before it.
+#[tactic(auto, unfolding(wire::specs::Answers::room_of))]
 fn last_at(made: &[u64], from: usize, place: u64) -> usize {
     let count = entry::room(made.len());
     let mut at = from;
@@ -49,6 +50,7 @@ fn last_at(made: &[u64], from: usize, place: u64) -> usize {
 }
 
 // Puts the other message's entry `there` at `at`. Its place is counted from 1 then: 0 says that nothing differs.
+#[tactic(auto, unfolding(wire::specs::Answers::room_of))]
 fn line_up_one(others: &[u64], there: usize, other: &[u8], lined: &mut [u64], at: usize) {
     if there < entry::room(others.len()) {
         let place = entry::place(others, there) as usize;
@@ -70,10 +72,9 @@ pub fn line_up(
     lined: &mut [u64],
 ) {
     let mut rest = list;
-    let mut left = count;
     let mut at = 0;
     let mut there = 0;
-    while 0 < left {
+    for _ in 0..count {
         if rest.len() < 2 {
             return;
         }
@@ -81,6 +82,5 @@ pub fn line_up(
         there = last_at(others, there, rest[1]);
         line_up_one(others, there, other, lined, at);
         rest = &rest[2..];
-        left -= 1;
     }
 }

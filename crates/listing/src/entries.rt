@@ -1,5 +1,5 @@
 // A message's entries: all of them, each on a line and indented as the shape is, or only those that differ from another message's.
-ghost use Rattle.std.specs.Prelude.{◌+◌, ◌≤◌, ◌<◌};
+ghost use Rattle.std.specs.Prelude.{◌+◌, ◌≤◌, ◌<◌, IfOk};
 ghost use Rattle.wire.specs.Shape.{depth as depth_of};
 ghost use Rattle.wire.specs.Table.{node_at, record_of};
 ghost use Rattle.wire.specs.Answers.{room_of};
@@ -10,6 +10,7 @@ use crate::parts::child;
 use crate::tree::say_bad;
 use crate::way::{WORDS, keep};
 use say::{say, say_bytes, say_why, say_with};
+use std::io;
 use wire::{Checked, Layout, ReadAnswer, Refusal};
 
 // What follows an item: rounds over the children from one position up to another.
@@ -55,6 +56,7 @@ fn span_of(number: u8, first: u64, width: usize) -> Span
 // The item of the entry `at` and those below it, and the entry that comes next.
 #[cycle(show_item_show_round_show_rounds)]
 fn show_item(
+    rt: &impl Print,
     table: &[u8],
     l: Layout,
     node: usize,
@@ -66,20 +68,21 @@ fn show_item(
     lined: &[u64],
     other: &[u8],
     at: usize,
-) -> usize
+) -> io::Result<usize>
     requires good_table { GoodTable table.now l }
     requires node_lt_nodes { (node < l.nodes) × (depth + depth_of (node_shape table.now l node) ≤ 256) }
     requires at_lt_count { (at < made.count) × (made.count ≤ room_of words.now) }
-    ensures { result ≤ made.count }
+    ensures { IfOk result (λ next. next ≤ made.count) }
 {
     let number = table::kind_at(table, l, node);
     let width = table::child_count(table, l, node);
     say_entry(
-        number, width, way, depth, words, made, message, lined, other, at,
-    );
+        rt, number, width, way, depth, words, made, message, lined, other, at,
+    )?;
     let first = entry::first(words, at);
     let span = span_of(number, first, width);
     show_rounds(
+        rt,
         table,
         l,
         node,
@@ -97,6 +100,7 @@ fn show_item(
 
 #[cycle(show_item_show_round_show_rounds)]
 fn show_rounds(
+    rt: &impl Print,
     table: &[u8],
     l: Layout,
     node: usize,
@@ -109,30 +113,29 @@ fn show_rounds(
     lined: &[u64],
     other: &[u8],
     at: usize,
-) -> usize
+) -> io::Result<usize>
     requires good_table { GoodTable table.now l }
     requires node_lt_nodes { (node < l.nodes) × (depth + depth_of (node_shape table.now l node) ≤ 256) }
     requires to_bound { span.to ≤ node_count (node_at table.now (record_of l node)) }
     requires at_le_count { (at ≤ made.count) × (made.count ≤ room_of words.now) }
-    ensures { result ≤ made.count }
+    ensures { IfOk result (λ next. next ≤ made.count) }
 {
     let mut next = at;
-    let mut round = 0;
-    while round < span.rounds {
+    for round in 0..span.rounds {
         if made.count <= next {
-            return next;
+            return Ok(next);
         }
         next = show_round(
-            table, l, node, span.from, span.to, round, way, depth, words, made, message, lined,
+            rt, table, l, node, span.from, span.to, round, way, depth, words, made, message, lined,
             other, next,
-        );
-        round += 1;
+        )?;
     }
-    next
+    Ok(next)
 }
 
 #[cycle(show_item_show_round_show_rounds)]
 fn show_round(
+    rt: &impl Print,
     table: &[u8],
     l: Layout,
     node: usize,
@@ -147,23 +150,23 @@ fn show_round(
     lined: &[u64],
     other: &[u8],
     at: usize,
-) -> usize
+) -> io::Result<usize>
     requires good_table { GoodTable table.now l }
     requires node_lt_nodes { (node < l.nodes) × (depth + depth_of (node_shape table.now l node) ≤ 256) }
     requires to_bound { to ≤ node_count (node_at table.now (record_of l node)) }
     requires at_le_count { (at ≤ made.count) × (made.count ≤ room_of words.now) }
-    ensures { result ≤ made.count }
+    ensures { IfOk result (λ next. next ≤ made.count) }
 {
     let number = table::kind_at(table, l, node);
     let mut next = at;
-    let mut k = from;
-    while k < to {
+    for k in from..to {
         if made.count <= next {
-            return next;
+            return Ok(next);
         }
         keep(way, depth, number, round, k as u64);
         let c = child(table, l, node, k);
         next = show_item(
+            rt,
             table,
             l,
             c,
@@ -175,14 +178,15 @@ fn show_round(
             lined,
             other,
             next,
-        );
-        k += 1;
+        )?;
     }
-    next
+    Ok(next)
 }
 
 // The entries that were made, if there are so many words: all, if no other message's are lined up with them.
+#[tactic(auto, unfolding(wire::specs::Answers::room_of))]
 fn show_entries(
+    rt: &impl Print,
     table: &[u8],
     l: Layout,
     words: &[u64],
@@ -190,7 +194,7 @@ fn show_entries(
     message: &[u8],
     lined: &[u64],
     other: &[u8],
-)
+) -> io::Result<()>
     requires { GoodTable table.now l }
 {
     if 0 < made.count {
@@ -198,26 +202,27 @@ fn show_entries(
             let root = l.root;
             let mut way = [0u64; WORDS];
             show_item(
-                table, l, root, &mut way, 0, words, made, message, lined, other, 0,
-            );
+                rt, table, l, root, &mut way, 0, words, made, message, lined, other, 0,
+            )?;
         }
     }
+    Ok(())
 }
 
-fn show_end(answer: ReadAnswer, rest: &[u8]) {
+fn show_end(rt: &impl Print, answer: ReadAnswer, rest: &[u8]) -> io::Result<()> {
     match answer {
         ReadAnswer::Done { place, count: _ } => {
-            say_with(b"read # byte$; rest:", place as u64);
-            say_bytes(rest);
-            say(b"\n");
+            say_with(rt, b"read # byte$; rest:", place as u64)?;
+            say_bytes(rt, rest)?;
+            say(rt, b"\n")
         }
         ReadAnswer::Refused {
             why,
             place,
             count: _,
         } => {
-            say(b"refused: ");
-            say_why(why, b", at byte #\n", place);
+            say(rt, b"refused: ")?;
+            say_why(rt, why, b", at byte #\n", place)
         }
     }
 }
@@ -242,6 +247,7 @@ fn made_by(answer: ReadAnswer, bytes: bool) -> Made {
 }
 
 // Where the own bytes of the item in front of the entry `at` end: where that one's begin, or else where the reading ended.
+#[tactic(auto, unfolding(wire::specs::Answers::room_of))]
 fn end_before(store: &[u64], answer: ReadAnswer, at: usize) -> usize {
     let made = made_by(answer, true);
     if at < made.count {
@@ -285,17 +291,19 @@ fn made_strictly(store: &[u64], strict: ReadAnswer, plain: ReadAnswer) -> Made {
 
 // The entries that are to be shown, and the rest or why the message is refused.
 fn show_made(
+    rt: &impl Print,
     table: &[u8],
     message: &[u8],
     store: &[u64],
     made: Made,
     answer: ReadAnswer,
     rest: &[u8],
-) {
+) -> io::Result<()> {
     match table::check(table) {
-        Checked::Bad { why, place } => say_bad(why, place),
+        Checked::Bad { why, place } => say_bad(rt, why, place),
         Checked::Good { layout } => {
             show_entries(
+                rt,
                 table,
                 layout,
                 store,
@@ -303,8 +311,8 @@ fn show_made(
                 message,
                 &store[0..0],
                 &message[0..0],
-            );
-            show_end(answer, rest);
+            )?;
+            show_end(rt, answer, rest)
         }
     }
 }
@@ -312,42 +320,59 @@ fn show_made(
 // What reading a message by a table answered: the entries in the store, with their places and bytes where they are asked for,
 // and the rest or why it is refused.
 pub fn show(
+    rt: &impl Print,
     table: &[u8],
     message: &[u8],
     store: &[u64],
     answer: ReadAnswer,
     rest: &[u8],
     bytes: bool,
-) {
-    show_made(table, message, store, made_by(answer, bytes), answer, rest);
+) -> io::Result<()> {
+    show_made(
+        rt,
+        table,
+        message,
+        store,
+        made_by(answer, bytes),
+        answer,
+        rest,
+    )
 }
 
 // What reading a message strictly by a table answered: the entries that a plain reading left in the store, as far as the strict
 // one goes, with their places and bytes; last the item, if one there is, that isn't in its shortest form.
 pub fn show_strictly(
+    rt: &impl Print,
     table: &[u8],
     message: &[u8],
     store: &[u64],
     strict: ReadAnswer,
     plain: ReadAnswer,
     rest: &[u8],
-) {
+) -> io::Result<()> {
     let made = made_strictly(store, strict, plain);
-    show_made(table, message, store, made, strict, rest);
+    show_made(rt, table, message, store, made, strict, rest)
 }
 
 // The items in which a message differs from another, each under its way: the entries that were made, and the other's lined up
 // with them.
-pub fn show_changes(table: &[u8], message: &[u8], words: &[u64], lined: &[u64], other: &[u8]) {
+pub fn show_changes(
+    rt: &impl Print,
+    table: &[u8],
+    message: &[u8],
+    words: &[u64],
+    lined: &[u64],
+    other: &[u8],
+) -> io::Result<()> {
     match table::check(table) {
-        Checked::Bad { why, place } => say_bad(why, place),
+        Checked::Bad { why, place } => say_bad(rt, why, place),
         Checked::Good { layout } => {
             let made = Made {
                 count: entry::room(words.len()),
                 bytes: false,
                 end: 0,
             };
-            show_entries(table, layout, words, made, message, lined, other);
+            show_entries(rt, table, layout, words, made, message, lined, other)
         }
     }
 }

@@ -7,16 +7,18 @@ use crate::tree::say_bad;
 use crate::value::say_value;
 use desk::FindAnswer;
 use say::{say, say_why, say_with};
+use std::io;
 use wire::{Checked, Layout};
 
 fn show_by(
+    rt: &impl Print,
     table: &[u8],
     l: Layout,
     path: &[u64; DEEPEST],
     depth: usize,
     message: &[u8],
     answer: FindAnswer,
-)
+) -> io::Result<()>
     requires { GoodTable table.now l }
 {
     match answer {
@@ -25,30 +27,38 @@ fn show_by(
             second,
             place,
         } => {
-            say(b"root");
-            let node = node_at(table, l, path, depth, true);
+            say(rt, b"root")?;
+            let node = node_at(rt, table, l, path, depth, true)?;
             let number = table::kind_at(table, l, node);
-            say(b": ");
-            say_kind(number);
-            say_value(number, 0, first, second, message);
-            say_with(b", at byte #\n", place as u64);
+            say(rt, b": ")?;
+            say_kind(rt, number)?;
+            say_value(rt, number, 0, first, second, message)?;
+            say_with(rt, b", at byte #\n", place as u64)
         }
-        FindAnswer::NoItem => say(b"refused: 13, the path leads to no single value\n"),
+        FindAnswer::NoItem => say(rt, b"refused: 13, the path leads to no single value\n"),
         FindAnswer::Absent { place } => say_with(
+            rt,
             b"refused: 14, an option on the path is absent, at byte #\n",
             place as u64,
         ),
         FindAnswer::Refused { why, place } => {
-            say(b"refused: ");
-            say_why(why, b", at byte #\n", place);
+            say(rt, b"refused: ")?;
+            say_why(rt, why, b", at byte #\n", place)
         }
     }
 }
 
 // What the question for the item at a path answered: the item with its path, its value and its place, or why there is none.
-pub fn show(table: &[u8], path: &[u64; DEEPEST], depth: usize, message: &[u8], answer: FindAnswer) {
+pub fn show(
+    rt: &impl Print,
+    table: &[u8],
+    path: &[u64; DEEPEST],
+    depth: usize,
+    message: &[u8],
+    answer: FindAnswer,
+) -> io::Result<()> {
     match table::check(table) {
-        Checked::Bad { why, place } => say_bad(why, place),
-        Checked::Good { layout } => show_by(table, layout, path, depth, message, answer),
+        Checked::Bad { why, place } => say_bad(rt, why, place),
+        Checked::Good { layout } => show_by(rt, table, layout, path, depth, message, answer),
     }
 }

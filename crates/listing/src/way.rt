@@ -2,6 +2,7 @@
 use crate::names::{count_of, name_of, say_position};
 use crate::path::DEEPEST;
 use say::say;
+use std::io;
 
 // Two words a level.
 pub const WORDS: usize = 2 * DEEPEST;
@@ -15,28 +16,28 @@ pub fn keep(way: &mut [u64; WORDS], level: usize, number: u8, round: u64, k: u64
     }
 }
 
-fn say_level(way: &[u64; WORDS], level: usize) {
+fn say_level(rt: &impl Print, way: &[u64; WORDS], level: usize) -> io::Result<()> {
     if level < DEEPEST {
         let at = 2 * level;
-        say_position(way[at] as usize, way[at + 1]);
+        say_position(rt, way[at] as usize, way[at + 1])?;
     }
+    Ok(())
 }
 
 // The way's last position; the root has none.
-pub fn say_end(way: &[u64; WORDS], depth: usize) {
+pub fn say_end(rt: &impl Print, way: &[u64; WORDS], depth: usize) -> io::Result<()> {
     if depth == 0 {
-        return say(b"root");
+        return say(rt, b"root");
     }
-    say_level(way, depth - 1);
+    say_level(rt, way, depth - 1)
 }
 
 // The whole way, from the root down.
-pub fn say_way(way: &[u64; WORDS], depth: usize) {
-    say(b"root");
-    let mut level = 0;
-    while level < depth {
-        say(b", ");
-        say_level(way, level);
-        level += 1;
+pub fn say_way(rt: &impl Print, way: &[u64; WORDS], depth: usize) -> io::Result<()> {
+    say(rt, b"root")?;
+    for level in 0..depth {
+        say(rt, b", ")?;
+        say_level(rt, way, level)?;
     }
+    Ok(())
 }

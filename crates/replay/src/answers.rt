@@ -88,6 +88,7 @@ pub fn tells(record: &[u8], told: Told) -> bool {
 
 // ---- reading
 
+#[tactic(auto, unfolding(wire::specs::Answers::read_says, wire::specs::Answers::done, wire::specs::Answers::numbered, crate::specs::Told::made))]
 fn read_told(answer: ReadAnswer) -> Told
     ensures { Tells (read_says answer) (made answer) result }
 {
@@ -127,9 +128,10 @@ fn read_over(strict: bool, record: &[u8], store: &mut [u64], then: &mut [u64]) -
     if !memory::same_words(store, then) {
         return false;
     }
-    check::same(reader::rest(message, answer), field::part(record, 7))
+    reader::rest(message, answer) == field::part(record, 7)
 }
 
+#[tactic(auto, unfolding(desk::specs::Listed::open_says, desk::specs::Listed::open_count, wire::specs::Answers::done, wire::specs::Answers::numbered))]
 fn open_told(answer: OpenAnswer) -> Told
     ensures { Tells (open_says answer) (open_count answer) result }
 {
@@ -192,7 +194,7 @@ fn open_over(
     if !memory::same_words(store, then) {
         return false;
     }
-    check::same(open::rest(message, answer), field::part(record, 7))
+    open::rest(message, answer) == field::part(record, 7)
 }
 
 // By that reader, whose list must come back zero.
@@ -219,6 +221,7 @@ fn read_agrees(strict: bool, record: &[u8]) -> bool {
 
 // ---- writing
 
+#[tactic(auto, unfolding(wire::specs::Answers::write_says, wire::specs::Answers::done, wire::specs::Answers::numbered))]
 fn write_told(answer: WriteAnswer) -> Told
     ensures { Tells (write_says answer) 0 result }
 {
@@ -260,7 +263,7 @@ fn write_over(record: &[u8], words: &mut [u64], out: &mut [u8], then: &mut [u8])
         return false;
     }
     memory::put(then, 0, field::part(record, 7));
-    check::same(out, then)
+    &*out == &*then
 }
 
 fn write_agrees(record: &[u8]) -> bool {
@@ -272,6 +275,7 @@ fn write_agrees(record: &[u8]) -> bool {
 
 // ---- the append question
 
+#[tactic(auto, unfolding(wire::specs::Answers::ask_says, wire::specs::Answers::done, wire::specs::Answers::numbered, crate::specs::Told::which))]
 fn ask_told(answer: AskAnswer) -> Told
     ensures { Tells (ask_says answer) (which answer) result }
 {
@@ -302,10 +306,8 @@ fn work_area() -> [u8; append::AREA + BEHIND] {
 // Whether all bytes are the same.
 fn is_all(part: &[u8], byte: u8) -> bool {
     let mut others = 0u8;
-    let mut i = 0;
-    while i < part.len() {
-        others = others | (part[i] ^ byte);
-        i = i + 1;
+    for own in part {
+        others = others | (*own ^ byte);
     }
     others == 0
 }
@@ -356,12 +358,12 @@ fn holds(record: &[u8], array: &[u8], message: &[u8]) -> bool {
     memory::put(&mut then, 0, field::part(record, 4));
     let place = field::number_at(record, 8) as usize;
     memory::put(&mut then, place, field::part(record, 9));
-    if !check::same(array, &then) {
+    if array != then.as_slice() {
         return false;
     }
     let mut decoded = [0u8; ROOM];
     memory::put(&mut decoded, 0, field::part(record, 7));
-    check::same(message, &decoded)
+    message == decoded.as_slice()
 }
 
 // Whether a step's numbers and what it hands back of the chunk are the record's.
@@ -377,7 +379,7 @@ fn step_agrees(record: &[u8], step: Step) -> bool {
     if !tells(record, told) {
         return false;
     }
-    check::same(tail::from(chunk, used), field::part(record, 6))
+    tail::from(chunk, used) == field::part(record, 6)
 }
 
 // By default, with the mark before and after it.
@@ -414,6 +416,7 @@ fn bridge_agrees(record: &[u8]) -> bool {
 
 // ---- taking an item
 
+#[tactic(auto, unfolding(wire::specs::Answers::take_says, wire::specs::Answers::done, wire::specs::Answers::numbered))]
 fn take_told(answer: TakeAnswer, behind: usize) -> Told
     ensures { Tells (take_says answer) behind result }
 {
@@ -470,11 +473,12 @@ fn take_agrees(record: &[u8]) -> bool {
     if !is_entry(record, answer) {
         return false;
     }
-    check::same(tail::from(message, behind), field::part(record, 7))
+    tail::from(message, behind) == field::part(record, 7)
 }
 
 // ---- finding an item
 
+#[tactic(auto, unfolding(desk::specs::Path::find_says, desk::specs::Path::first_of, wire::specs::Answers::done, wire::specs::Answers::numbered))]
 fn find_told(answer: FindAnswer) -> Told
     ensures { Tells (find_says answer) (first_of answer) result }
 {
@@ -506,6 +510,7 @@ fn find_told(answer: FindAnswer) -> Told
     }
 }
 
+#[tactic(auto, unfolding(desk::specs::Path::second_of))]
 fn second_of(answer: FindAnswer) -> u64
     ensures { result ≡ second_of answer }
 {
@@ -547,6 +552,7 @@ fn find_agrees(record: &[u8]) -> bool {
 
 // ---- two messages side by side
 
+#[tactic(auto, unfolding(desk::specs::Differ::compare_says, crate::specs::Told::pairs_or_which, wire::specs::Answers::done, wire::specs::Answers::numbered))]
 fn compare_told(answer: CompareAnswer) -> Told
     ensures { Tells (compare_says answer) (pairs_or_which answer) result }
 {

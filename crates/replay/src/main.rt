@@ -6,12 +6,13 @@ mod answers;
 mod nights;
 mod rows;
 
-ghost use Rattle.std.specs.Prelude.{◌+◌, ◌^◌, ◌<◌, ◌≤◌};
+ghost use Rattle.std.specs.Prelude.{◌+◌, ◌^◌, ◌<◌, ◌≤◌, IfOk};
 
 use answers::Kind;
-use libc::STDOUT_FILENO;
 use recorded::{field, memory};
 use say::{say, say_with};
+use std::io;
+use std::rt::Files;
 
 // How many records were replayed, and how many of them agree.
 #[derive(Clone, Copy)]
@@ -21,16 +22,16 @@ struct Tally {
 }
 
 // Whether a record agrees; says so if it doesn't.
-fn try_record(kind: Kind, record: &[u8], which: u64) -> bool {
+fn try_record(rt: &impl Print, kind: Kind, record: &[u8], which: u64) -> io::Result<bool> {
     if !field::is_whole(record, answers::fields(kind)) {
-        say_with(b"record # is not one of this kind\n", which);
-        return false;
+        say_with(rt, b"record # is not one of this kind\n", which)?;
+        return Ok(false);
     }
     if !answers::agrees(kind, record) {
-        say_with(b"record # differs\n", which);
-        return false;
+        say_with(rt, b"record # differs\n", which)?;
+        return Ok(false);
     }
-    true
+    Ok(true)
 }
 
 // One more if a record is good.
@@ -42,8 +43,8 @@ fn counted(agree: u64, good: bool) -> u64
 }
 
 // Replays each record of a list.
-fn try_list(kind: Kind, list: &[u8]) -> Tally
-    ensures { result.agree ≤ result.records }
+fn try_list(rt: &impl Print, kind: Kind, list: &[u8]) -> io::Result<Tally>
+    ensures { IfOk result (λ tally. tally.agree ≤ tally.records) }
 {
     let mut rest = list;
     let mut records: u64 = 0;
@@ -51,56 +52,55 @@ fn try_list(kind: Kind, list: &[u8]) -> Tally
     while 0 < rest.len() {
         let end = field::end_of(rest);
         if end < 2 {
-            say(b"the list ends inside a record\n");
-            return Tally { records, agree };
+            say(rt, b"the list ends inside a record\n")?;
+            return Ok(Tally { records, agree });
         }
         records += 1;
-        let good = try_record(kind, &rest[2..end], records);
+        let good = try_record(rt, kind, &rest[2..end], records)?;
         agree = counted(agree, good);
         rest = &rest[end..];
     }
-    Tally { records, agree }
+    Ok(Tally { records, agree })
 }
 
 // Replays the list of a kind, and says how many agree, of how many bytes it is, and their sum.
-fn replay_list(kind: Kind, name: &[u8], list: &[u8]) {
-    let tally = try_list(kind, list);
-    say(name);
-    say_with(b": # of ", tally.agree);
-    say_with(b"# agree; ", tally.records);
-    say_with(b"# bytes, sum ", list.len() as u64);
-    io::print_hex(STDOUT_FILENO, memory::sum(list), 8);
-    say(b"\n");
+fn replay_list(rt: &impl Print, kind: Kind, name: &[u8], list: &[u8]) -> io::Result<()> {
+    let tally = try_list(rt, kind, list)?;
+    say(rt, name)?;
+    say_with(rt, b": # of ", tally.agree)?;
+    say_with(rt, b"# agree; ", tally.records)?;
+    say_with(rt, b"# bytes, sum ", list.len() as u64)?;
+    let sum = memory::sum(list);
+    println!(rt; "{sum:08x}")
 }
 
-fn replay(kind: Kind, path: &[u8]) {
-    let fd = os::open_read(path);
-    if fd < 0 {
-        return os::fail(path);
-    }
+fn replay<R: Files + Print + Eprint + Alloc>(rt: &R, kind: Kind, path: &[u8]) -> io::Result<()> {
+    let mut file = match host::open(rt, path) {
+        Ok(file) => file,
+        Err(why) => return host::fail(rt, path, why),
+    };
     let mut room = memory::room();
-    let end = io::read_full(fd, &mut room);
-    libc::close(fd);
+    let end = host::read_full(&mut file, &mut room)?;
     if end == room.len() {
-        say(path);
-        return say(b": larger than the room for a list\n");
+        say(rt, path)?;
+        return say(rt, b": larger than the room for a list\n");
     }
-    replay_list(kind, path, &room[..end]);
+    replay_list(rt, kind, path, &room[..end])
 }
 
-fn main() {
-    replay(Kind::Read, b"reading");
-    replay(Kind::ReadStrict, b"strict");
-    replay(Kind::Write, b"writing");
-    replay(Kind::Append, b"appending");
-    replay(Kind::Feed, b"waiting");
-    replay(Kind::Bridge, b"feeding");
-    replay(Kind::Bridge, b"frames");
-    replay(Kind::Take, b"taking");
-    replay(Kind::Find, b"finding");
-    replay(Kind::Compare, b"comparing");
-    replay(Kind::Batch, b"batching");
-    replay(Kind::Compact, b"compacting");
-    replay(Kind::Export, b"exporting");
-    replay(Kind::Import, b"importing");
+fn main(rt: HostRuntime) -> io::Result<()> {
+    replay(&rt, Kind::Read, b"reading")?;
+    replay(&rt, Kind::ReadStrict, b"strict")?;
+    replay(&rt, Kind::Write, b"writing")?;
+    replay(&rt, Kind::Append, b"appending")?;
+    replay(&rt, Kind::Feed, b"waiting")?;
+    replay(&rt, Kind::Bridge, b"feeding")?;
+    replay(&rt, Kind::Bridge, b"frames")?;
+    replay(&rt, Kind::Take, b"taking")?;
+    replay(&rt, Kind::Find, b"finding")?;
+    replay(&rt, Kind::Compare, b"comparing")?;
+    replay(&rt, Kind::Batch, b"batching")?;
+    replay(&rt, Kind::Compact, b"compacting")?;
+    replay(&rt, Kind::Export, b"exporting")?;
+    replay(&rt, Kind::Import, b"importing")
 }

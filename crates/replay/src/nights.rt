@@ -13,6 +13,7 @@ const WRITE: u64 = 0;
 
 const CHECK: u64 = 1;
 
+#[tactic(auto, unfolding(desk::specs::Batch::fault_says, wire::specs::Answers::numbered))]
 fn refused_told(why: Fault) -> Told
     ensures { Tells (fault_says why) 0 result }
 {
@@ -42,6 +43,7 @@ fn refused_told(why: Fault) -> Told
 
 // ---- writing
 
+#[tactic(auto, unfolding(desk::specs::Batch::written_says, wire::specs::Answers::done))]
 fn written_told(answer: BatchWritten) -> Told
     ensures { Tells (written_says answer) 0 result }
 {
@@ -74,7 +76,7 @@ fn write_over(record: &[u8], out: &mut [u8], then: &mut [u8]) -> bool {
         return false;
     }
     memory::put(then, 0, field::part(record, 9));
-    check::same(out, then)
+    &*out == &*then
 }
 
 fn write_agrees(record: &[u8]) -> bool {
@@ -85,6 +87,7 @@ fn write_agrees(record: &[u8]) -> bool {
 
 // ---- the check and the search
 
+#[tactic(auto, unfolding(desk::specs::Batch::checked_says, wire::specs::Answers::done))]
 fn checked_told(answer: BatchChecked) -> Told
     ensures { Tells (checked_says answer) 0 result }
 {
@@ -103,6 +106,7 @@ fn check_agrees(record: &[u8]) -> bool {
     answers::tells(record, checked_told(answer))
 }
 
+#[tactic(auto, unfolding(desk::specs::Batch::found_says, desk::specs::Batch::from_of, wire::specs::Answers::done))]
 fn found_told(answer: BatchFound) -> Told
     ensures { Tells (found_says answer) (from_of answer) result }
 {
@@ -116,6 +120,7 @@ fn found_told(answer: BatchFound) -> Told
     }
 }
 
+#[tactic(auto, unfolding(desk::specs::Batch::len_of))]
 fn length_of(answer: BatchFound) -> u64
     ensures { result ≡ len_of answer }
 {
@@ -166,7 +171,7 @@ fn compact_over(record: &[u8], out: &mut [u8], then: &mut [u8]) -> bool {
         return false;
     }
     memory::put(then, 0, field::part(record, 6));
-    check::same(out, then)
+    &*out == &*then
 }
 
 // Whether a compaction answers and leaves what the record has.

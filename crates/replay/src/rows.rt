@@ -7,6 +7,7 @@ use crate::answers::Told;
 use desk::CsvAnswer;
 use recorded::{field, memory};
 
+#[tactic(auto, unfolding(desk::specs::Csv::csv_says, wire::specs::Answers::done, wire::specs::Answers::numbered))]
 fn row_told(answer: CsvAnswer) -> Told
     ensures { Tells (csv_says answer) 0 result }
 {
@@ -57,7 +58,7 @@ fn row_over(import: bool, record: &[u8], out: &mut [u8], then: &mut [u8]) -> boo
         return false;
     }
     memory::put(then, 0, field::part(record, 6));
-    check::same(out, then)
+    &*out == &*then
 }
 
 // Whether an import, or an export, answers and leaves what the record has.

@@ -5,6 +5,7 @@
 use recorded::field::part;
 use recorded::memory::put_words;
 use say::{say, say_bytes, say_entries, say_why, say_with};
+use std::io;
 use wire::{ReadAnswer, WriteAnswer};
 
 // So many value lists are to be written, of which the longest has so many words; a store has room for some more.
@@ -17,28 +18,28 @@ const STORE: usize = 45 * entry::WORDS;
 // The room for a message of every kind, with four bytes behind it.
 const ROOM: usize = 135;
 
-fn say_line(bytes: &[u8]) {
-    say_bytes(bytes);
-    say(b"\n");
+fn say_line(rt: &impl Print, bytes: &[u8]) -> io::Result<()> {
+    say_bytes(rt, bytes)?;
+    say(rt, b"\n")
 }
 
 // ---- there and back
 
 // Writes what was read, of which the message is the pool: the same bytes come out.
-fn write_again(table: &[u8], words: &[u64], message: &[u8]) {
+fn write_again(rt: &impl Print, table: &[u8], words: &[u64], message: &[u8]) -> io::Result<()> {
     let mut out = [0xeeu8; ROOM];
     match writer::write(table, words, message, &mut out) {
-        WriteAnswer::Refused { why: _, place: _ } => say(b"not written again\n"),
+        WriteAnswer::Refused { why: _, place: _ } => say(rt, b"not written again\n"),
         WriteAnswer::Done { place } => {
-            if check::same(&out, message) {
-                return say_with(b"written again, # bytes: the same\n", place as u64);
+            if out.as_slice() == message {
+                return say_with(rt, b"written again, # bytes: the same\n", place as u64);
             }
-            say_with(b"written again, # bytes: others\n", place as u64);
+            say_with(rt, b"written again, # bytes: others\n", place as u64)
         }
     }
 }
 
-fn read_back(table: &[u8], message: &[u8]) {
+fn read_back(rt: &impl Print, table: &[u8], message: &[u8]) -> io::Result<()> {
     let mut store = [7u64; STORE];
     let answer = reader::read(table, message, &mut store);
     match answer {
@@ -46,25 +47,25 @@ fn read_back(table: &[u8], message: &[u8]) {
             why: _,
             place: _,
             count: _,
-        } => say(b"not read\n"),
+        } => say(rt, b"not read\n"),
         ReadAnswer::Done { place, count } => {
-            say_with(b"read # bytes:", place as u64);
-            say_entries(&store, count);
-            say(b"\nrest:");
-            say_line(reader::rest(message, answer));
-            write_again(table, entry::front(&store, count), message);
+            say_with(rt, b"read # bytes:", place as u64)?;
+            say_entries(rt, &store, count)?;
+            say(rt, b"\nrest:")?;
+            say_line(rt, reader::rest(message, answer))?;
+            write_again(rt, table, entry::front(&store, count), message)
         }
     }
 }
 
-fn there_and_back(table: &[u8], words: &[u64], pool: &[u8]) {
+fn there_and_back(rt: &impl Print, table: &[u8], words: &[u64], pool: &[u8]) -> io::Result<()> {
     let mut message = [0xeeu8; ROOM];
     match writer::write(table, words, pool, &mut message) {
-        WriteAnswer::Refused { why, place } => say_why(why, b", at #: not written\n", place),
+        WriteAnswer::Refused { why, place } => say_why(rt, why, b", at #: not written\n", place),
         WriteAnswer::Done { place } => {
-            say_with(b"written # bytes, then as before:", place as u64);
-            say_line(&message);
-            read_back(table, &message);
+            say_with(rt, b"written # bytes, then as before:", place as u64)?;
+            say_line(rt, &message)?;
+            read_back(rt, table, &message)
         }
     }
 }
@@ -72,23 +73,23 @@ fn there_and_back(table: &[u8], words: &[u64], pool: &[u8]) {
 // ---- refusals
 
 // Writes to five bytes, and says what came back and what stands there then.
-fn write_short(table: &[u8], words: &[u64], pool: &[u8]) {
+fn write_short(rt: &impl Print, table: &[u8], words: &[u64], pool: &[u8]) -> io::Result<()> {
     let mut out = [0xeeu8; 5];
     match writer::write(table, words, pool, &mut out) {
-        WriteAnswer::Done { place } => say_with(b": done at #", place as u64),
+        WriteAnswer::Done { place } => say_with(rt, b": done at #", place as u64)?,
         WriteAnswer::Refused { why, place } => {
-            say(b": refused ");
-            say_why(why, b", at #", place);
+            say(rt, b": refused ")?;
+            say_why(rt, why, b", at #", place)?;
         }
     }
-    say(b"; out");
-    say_line(&out);
+    say(rt, b"; out")?;
+    say_line(rt, &out)
 }
 
 // ---- the list
 
 // A record is a name, a table, a value list and a pool.
-fn write_record(which: usize, record: &[u8]) {
+fn write_record(rt: &impl Print, which: usize, record: &[u8]) -> io::Result<()> {
     let mut room = [0u64; LONGEST];
     let list = part(record, 2);
     put_words(&mut room, list);
@@ -96,23 +97,23 @@ fn write_record(which: usize, record: &[u8]) {
     if count <= room.len() {
         let words = &room[..count];
         if which == 0 {
-            return there_and_back(part(record, 1), words, part(record, 3));
+            return there_and_back(rt, part(record, 1), words, part(record, 3));
         }
-        say(part(record, 0));
-        write_short(part(record, 1), words, part(record, 3));
+        say(rt, part(record, 0))?;
+        write_short(rt, part(record, 1), words, part(record, 3))?;
     }
+    Ok(())
 }
 
-fn write_all(lists: &[u8]) {
-    let mut which = 0;
-    while which < LISTS {
-        write_record(which, part(lists, which));
-        which += 1;
+fn write_all(rt: &impl Print, lists: &[u8]) -> io::Result<()> {
+    for which in 0..LISTS {
+        write_record(rt, which, part(lists, which))?;
     }
+    Ok(())
 }
 
-fn main() {
-    let mut room = io::buffer();
-    let end = io::read_full(0, &mut room);
-    write_all(&room[..end]);
+fn main(rt: HostRuntime) -> io::Result<()> {
+    let mut room = host::buffer();
+    let end = host::read_full(&mut rt.stdin(), &mut room)?;
+    write_all(&rt, &room[..end])
 }

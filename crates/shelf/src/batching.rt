@@ -3,6 +3,8 @@
 use crate::{decimal, files, shown};
 use desk::{BatchChecked, BatchFound, BatchWritten, Fault, Key};
 use say::{front, say, say_bytes, say_with};
+use std::io;
+use std::rt::{Env, Runtime};
 
 // A command's second word.
 #[derive(Clone, Copy)]
@@ -14,28 +16,21 @@ enum Asked {
     Unknown,
 }
 
-fn wanted() -> Asked {
-    let mut word = io::buffer();
-    let n = os::arg(2, &mut word);
-    let name = &word[..n];
-    if check::same(name, b"write") {
-        return Asked::Write;
+fn wanted(rt: &impl Env) -> Asked {
+    let mut word = host::buffer();
+    let n = host::word(rt, 2, &mut word);
+    match &word[..n] {
+        b"write" => Asked::Write,
+        b"check" => Asked::Check,
+        b"last" => Asked::Last,
+        b"compact" => Asked::Compact,
+        _ => Asked::Unknown,
     }
-    if check::same(name, b"check") {
-        return Asked::Check;
-    }
-    if check::same(name, b"last") {
-        return Asked::Last;
-    }
-    if check::same(name, b"compact") {
-        return Asked::Compact;
-    }
-    Asked::Unknown
 }
 
 // Whether a batch command may have so many words.
-pub fn fits(count: usize) -> bool {
-    match wanted() {
+pub fn fits(rt: &impl Env, count: usize) -> bool {
+    match wanted(rt) {
         Asked::Write => count == 8,
         Asked::Check => count == 5,
         Asked::Last => count == 7,
@@ -44,70 +39,91 @@ pub fn fits(count: usize) -> bool {
     }
 }
 
-fn say_fault(fault: Fault) {
+fn say_fault(rt: &impl Print, fault: Fault) -> io::Result<()> {
     match fault {
-        Fault::Wire { why, place } => shown::say_refusal(why, place, b"batch", files::LARGEST),
-        Fault::Fields => say(b"refused: 17, the store and product fields don't fit the table\n"),
-        Fault::Batch => say(b"refused: 18, the batch is bad\n"),
-        Fault::Missing => say(b"refused: 19, the batch has no such store and product\n"),
+        Fault::Wire { why, place } => shown::say_refusal(rt, why, place, b"batch", files::LARGEST),
+        Fault::Fields => say(
+            rt,
+            b"refused: 17, the store and product fields don't fit the table\n",
+        ),
+        Fault::Batch => say(rt, b"refused: 18, the batch is bad\n"),
+        Fault::Missing => say(
+            rt,
+            b"refused: 19, the batch has no such store and product\n",
+        ),
     }
 }
 
 // ---- writing
 
-fn write(table: &[u8], messages: &[u8], store: u64, product: u64) {
+fn write(
+    rt: &impl Runtime,
+    table: &[u8],
+    messages: &[u8],
+    store: u64,
+    product: u64,
+) -> io::Result<()> {
     let mut out = files::largest_room();
     match batch::write(table, messages, store as usize, product as usize, &mut out) {
-        BatchWritten::Done { place } => files::save(7, front(&out, place)),
-        BatchWritten::Refused { why } => say_fault(why),
+        BatchWritten::Done { place } => files::save(rt, 7, front(&out, place)),
+        BatchWritten::Refused { why } => say_fault(rt, why),
     }
 }
 
 // With the table, the messages that the command's word 4 names, and the fields of words 5 and 6. No root has a field at a place
 // that doesn't fit 64 bits, nor at one that such a number stays at.
-fn write_messages(table: &[u8]) {
-    let store = decimal::word(5);
-    let product = decimal::word(6);
+fn write_messages(rt: &impl Runtime, table: &[u8]) -> io::Result<()> {
+    let store = decimal::word(rt, 5);
+    let product = decimal::word(rt, 6);
     if !store.good || !product.good {
-        return say(b"a field is a number in decimal\n");
+        return say(rt, b"a field is a number in decimal\n");
     }
     let mut room = files::large_room();
-    let loaded = files::load(4, &mut room);
+    let loaded = files::load(rt, 4, &mut room)?;
     let whole = loaded.whole;
     let len = loaded.len;
     if whole {
-        write(table, &room[..len], store.value, product.value);
+        write(rt, table, &room[..len], store.value, product.value)?;
     }
+    Ok(())
 }
 
 // ---- checking and searching
 
-fn judge(table: &[u8], batch: &[u8]) {
+fn judge(rt: &impl Print, table: &[u8], batch: &[u8]) -> io::Result<()> {
     match batch::check(table, batch) {
         BatchChecked::Good => say(
+            rt,
             b"good batch: messages end to end, and a row for each, in order\n",
         ),
-        BatchChecked::Bad { why } => say_fault(why),
+        BatchChecked::Bad { why } => say_fault(rt, why),
     }
 }
 
-fn show(table: &[u8], batch: &[u8], found: BatchFound, from: usize, len: usize) {
+fn show(
+    rt: &impl Print,
+    table: &[u8],
+    batch: &[u8],
+    found: BatchFound,
+    from: usize,
+    len: usize,
+) -> io::Result<()> {
     let message = batch::part(batch, found);
-    say_with(b"at byte #, ", from as u64);
-    say_with(b"# byte$:", len as u64);
-    say_bytes(message);
-    say(b"\n");
-    shown::read(table, message, false);
+    say_with(rt, b"at byte #, ", from as u64)?;
+    say_with(rt, b"# byte$:", len as u64)?;
+    say_bytes(rt, message)?;
+    say(rt, b"\n")?;
+    shown::read(rt, table, message, false)
 }
 
-fn last(table: &[u8], batch: &[u8]) {
-    let store = decimal::word(5);
-    let product = decimal::word(6);
+fn last(rt: &(impl Env + Print), table: &[u8], batch: &[u8]) -> io::Result<()> {
+    let store = decimal::word(rt, 5);
+    let product = decimal::word(rt, 6);
     if !store.good || !product.good {
-        return say(b"a store and a product are numbers in decimal\n");
+        return say(rt, b"a store and a product are numbers in decimal\n");
     }
     if !product.fits {
-        return say(b"a product number is at most 18446744073709551615\n");
+        return say(rt, b"a product number is at most 18446744073709551615\n");
     }
     let key = Key {
         store: store.value,
@@ -115,47 +131,49 @@ fn last(table: &[u8], batch: &[u8]) {
     };
     let found = batch::last(table, batch, key);
     match found {
-        BatchFound::Part { from, len } => show(table, batch, found, from, len),
-        BatchFound::Refused { why } => say_fault(why),
+        BatchFound::Part { from, len } => show(rt, table, batch, found, from, len),
+        BatchFound::Refused { why } => say_fault(rt, why),
     }
 }
 
 // ---- compaction
 
-fn compact(table: &[u8], batch: &[u8]) {
+fn compact(rt: &impl Runtime, table: &[u8], batch: &[u8]) -> io::Result<()> {
     let mut out = files::largest_room();
     match batch::compact(table, batch, &mut out) {
-        BatchWritten::Done { place } => files::save(5, front(&out, place)),
-        BatchWritten::Refused { why } => say_fault(why),
+        BatchWritten::Done { place } => files::save(rt, 5, front(&out, place)),
+        BatchWritten::Refused { why } => say_fault(rt, why),
     }
 }
 
 // With the table, the batch that the command's word 4 names.
-fn run_on_batch(asked: Asked, table: &[u8]) {
+fn run_on_batch(rt: &impl Runtime, asked: Asked, table: &[u8]) -> io::Result<()> {
     let mut room = files::largest_room();
-    let loaded = files::load(4, &mut room);
+    let loaded = files::load(rt, 4, &mut room)?;
     let whole = loaded.whole;
     let len = loaded.len;
     if whole {
         match asked {
-            Asked::Last => last(table, &room[..len]),
-            Asked::Compact => compact(table, &room[..len]),
-            _ => judge(table, &room[..len]),
-        }
+            Asked::Last => last(rt, table, &room[..len]),
+            Asked::Compact => compact(rt, table, &room[..len]),
+            _ => judge(rt, table, &room[..len]),
+        }?;
     }
+    Ok(())
 }
 
 // A batch command, with the table that its word 3 names.
-pub fn run() {
+pub fn run(rt: &impl Runtime) -> io::Result<()> {
     let mut room = files::large_room();
-    let loaded = files::load(3, &mut room);
+    let loaded = files::load(rt, 3, &mut room)?;
     let whole = loaded.whole;
     let len = loaded.len;
     if whole {
-        let asked = wanted();
+        let asked = wanted(rt);
         match asked {
-            Asked::Write => write_messages(&room[..len]),
-            _ => run_on_batch(asked, &room[..len]),
-        }
+            Asked::Write => write_messages(rt, &room[..len]),
+            _ => run_on_batch(rt, asked, &room[..len]),
+        }?;
     }
+    Ok(())
 }

@@ -3,6 +3,8 @@ use crate::files;
 use desk::CompareAnswer;
 use listing::changes;
 use say::say;
+use std::io;
+use std::rt::Runtime;
 use wire::ReadAnswer;
 
 // The list has room for 16,384 pairs: no two messages of so many entries have more.
@@ -24,9 +26,16 @@ fn made_by(read: ReadAnswer) -> usize {
 }
 
 // The items at so many pairs of places, in words.
-fn show_changes(table: &[u8], one: &[u8], other: &[u8], list: &[u64], count: usize) {
+fn show_changes(
+    rt: &impl Print,
+    table: &[u8],
+    one: &[u8],
+    other: &[u8],
+    list: &[u64],
+    count: usize,
+) -> io::Result<()> {
     if count == 0 {
-        return say(b"no item differs\n");
+        return say(rt, b"no item differs\n");
     }
     let mut store = files::words_room();
     let mut others = files::words_room();
@@ -36,35 +45,36 @@ fn show_changes(table: &[u8], one: &[u8], other: &[u8], list: &[u64], count: usi
     let made = entry::front(&store, ones);
     let beside = entry::front(&others, theirs);
     changes::line_up(list, count, made, beside, other, &mut lined);
-    listing::entries::show_changes(table, one, made, &lined, other);
+    listing::entries::show_changes(rt, table, one, made, &lined, other)
 }
 
-fn compare(table: &[u8], one: &[u8], other: &[u8], aloud: bool) {
+fn compare(rt: &impl Print, table: &[u8], one: &[u8], other: &[u8], aloud: bool) -> io::Result<()> {
     let mut list = pairs_room();
     match compare::compare(table, one, other, &mut list) {
         CompareAnswer::Done { count } => {
             if aloud {
-                return show_changes(table, one, other, &list, count);
+                return show_changes(rt, table, one, other, &list, count);
             }
-            changes::say_pairs(&list, count);
+            changes::say_pairs(rt, &list, count)
         }
-        CompareAnswer::Short => say(b"refused: 15, the list is too short for the pairs\n"),
+        CompareAnswer::Short => say(rt, b"refused: 15, the list is too short for the pairs\n"),
         CompareAnswer::Refused { why, place } => {
-            changes::say_refused(b"the first message", why, place)
+            changes::say_refused(rt, b"the first message", why, place)
         }
         CompareAnswer::OtherRefused { why, place } => {
-            changes::say_refused(b"the second message", why, place)
+            changes::say_refused(rt, b"the second message", why, place)
         }
     }
 }
 
 // Compares a message with the one that the command's word 4 names: the pairs of places, or, aloud, the items in words.
-pub fn compare_with(table: &[u8], one: &[u8], aloud: bool) {
+pub fn compare_with(rt: &impl Runtime, table: &[u8], one: &[u8], aloud: bool) -> io::Result<()> {
     let mut room = files::large_room();
-    let loaded = files::load(4, &mut room);
+    let loaded = files::load(rt, 4, &mut room)?;
     let whole = loaded.whole;
     let len = loaded.len;
     if whole {
-        compare(table, one, &room[..len], aloud);
+        compare(rt, table, one, &room[..len], aloud)?;
     }
+    Ok(())
 }

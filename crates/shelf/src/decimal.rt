@@ -1,4 +1,5 @@
 // Numbers in decimal, as a command's words spell them.
+use std::rt::Env;
 
 // What a word spells: a number, if it is digits alone. One that leaves 64 bits doesn't fit, and stays as large as it got.
 #[derive(Clone, Copy)]
@@ -19,9 +20,8 @@ fn nothing() -> Number {
 pub fn decimal(word: &[u8]) -> Number {
     let mut value = 0u64;
     let mut fits = true;
-    let mut i = 0;
-    while i < word.len() {
-        let sign = word[i];
+    for byte in word {
+        let sign = *byte;
         if sign < b'0' {
             return nothing();
         }
@@ -34,7 +34,6 @@ pub fn decimal(word: &[u8]) -> Number {
         } else {
             fits = false;
         }
-        i += 1;
     }
     Number {
         good: 0 < word.len(),
@@ -44,8 +43,8 @@ pub fn decimal(word: &[u8]) -> Number {
 }
 
 // The number that the command's word i spells.
-pub fn word(i: usize) -> Number {
-    let mut word = io::buffer();
-    let n = os::arg(i, &mut word);
+pub fn word(rt: &impl Env, i: usize) -> Number {
+    let mut word = host::buffer();
+    let n = host::word(rt, i, &mut word);
     decimal(&word[..n])
 }

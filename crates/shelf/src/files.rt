@@ -1,9 +1,11 @@
 // A file named by a word of the command, whole or not at all.
-ghost use Rattle.std.specs.Prelude.{◌≡◌, ◌*◌, length};
+ghost use Rattle.std.specs.Prelude.{◌≡◌, ◌*◌, ◌≤◌, length, IfOk};
 ghost use Rattle.wire.specs.Answers.{words_per};
-ghost use Rattle.io.specs.Counts.{IsPrefixLen};
 
 use say::{say, say_with};
+use std::io;
+use std::io::Read;
+use std::rt::Runtime;
 
 // The words of 16,384 entries, for a store or a value list.
 const WORDS: usize = 16384 * entry::WORDS;
@@ -38,62 +40,68 @@ pub struct Loaded {
 }
 
 // Whether a file's end is reached; says what else there is.
-fn is_ended(fd: i32, path: &[u8], room: usize) -> bool {
+fn is_ended<R: Runtime>(rt: &R, file: &mut R::File, path: &[u8], room: usize) -> io::Result<bool> {
     let mut next = [0u8; 1];
-    let more = libc::read(fd, &mut next);
-    if more < 0 {
-        os::fail(path);
-        return false;
+    match file.read(&mut next) {
+        Ok(0) => Ok(true),
+        Ok(_) => {
+            say(rt, path)?;
+            say_with(rt, b": larger than the room of # bytes\n", room as u64)?;
+            Ok(false)
+        }
+        Err(why) => {
+            host::fail(rt, path, why)?;
+            Ok(false)
+        }
     }
-    if 0 < more {
-        say(path);
-        say_with(b": larger than the room of # bytes\n", room as u64);
-        return false;
-    }
-    true
 }
 
-fn load_from(path: &[u8], room: &mut [u8]) -> Loaded
-    ensures { IsPrefixLen result.len room.new }
+// What there is of a file that can't be read.
+const NOTHING: Loaded = Loaded {
+    whole: false,
+    len: 0,
+};
+
+fn load_from(rt: &impl Runtime, path: &[u8], room: &mut [u8]) -> io::Result<Loaded>
+    ensures { IfOk result (λ loaded. loaded.len ≤ length room.new) }
 {
-    let fd = os::open_read(path);
-    if fd < 0 {
-        os::fail(path);
-        return Loaded {
-            whole: false,
-            len: 0,
-        };
+    let mut file = match host::open(rt, path) {
+        Ok(file) => file,
+        Err(why) => {
+            host::fail(rt, path, why)?;
+            return Ok(NOTHING);
+        }
+    };
+    match host::read_full(&mut file, room) {
+        Ok(len) => {
+            let whole = is_ended(rt, &mut file, path, room.len())?;
+            Ok(Loaded { whole, len })
+        }
+        Err(why) => {
+            host::fail(rt, path, why)?;
+            Ok(NOTHING)
+        }
     }
-    let len = io::read_full(fd, room);
-    let whole = is_ended(fd, path, room.len());
-    libc::close(fd);
-    Loaded { whole, len }
 }
 
 // The file that the command's word i names, in front of the room.
-pub fn load(i: usize, room: &mut [u8]) -> Loaded
-    ensures { IsPrefixLen result.len room.new }
+pub fn load(rt: &impl Runtime, i: usize, room: &mut [u8]) -> io::Result<Loaded>
+    ensures { IfOk result (λ loaded. loaded.len ≤ length room.new) }
 {
-    let mut path = io::buffer();
-    let n = os::arg(i, &mut path);
-    load_from(&path[..n], room)
+    let mut path = host::buffer();
+    let n = host::word(rt, i, &mut path);
+    load_from(rt, &path[..n], room)
 }
 
 // Puts bytes into the file that the command's word i names; says whether that is done.
-pub fn save(i: usize, bytes: &[u8]) {
-    let mut path = io::buffer();
-    let n = os::arg(i, &mut path);
+pub fn save(rt: &impl Runtime, i: usize, bytes: &[u8]) -> io::Result<()> {
+    let mut path = host::buffer();
+    let n = host::word(rt, i, &mut path);
     let name = &path[..n];
-    let fd = os::open_overwrite(name);
-    if fd < 0 {
-        return os::fail(name);
+    if let Err(why) = host::write(rt, name, bytes) {
+        return host::fail(rt, name, why);
     }
-    let done = io::write_all(fd, bytes);
-    let closed = libc::close(fd);
-    if !done || closed < 0 {
-        return os::fail(name);
-    }
-    say_with(b"wrote # bytes to ", bytes.len() as u64);
-    say(name);
-    say(b"\n");
+    say_with(rt, b"wrote # bytes to ", bytes.len() as u64)?;
+    say(rt, name)?;
+    say(rt, b"\n")
 }

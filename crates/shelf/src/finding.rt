@@ -2,6 +2,8 @@
 use crate::decimal;
 use desk::FindAnswer;
 use say::say;
+use std::io;
+use std::rt::Env;
 
 // A path has at most so many positions: no chain of a good table is longer.
 const DEEPEST: usize = 256;
@@ -15,12 +17,11 @@ enum Spelled {
 
 // Puts the path of the command's words from the fifth on in front. No table has a position that doesn't fit 64 bits, nor one that
 // such a number stays at.
-fn path_of(path: &mut [u64]) -> Spelled {
-    let count = os::arg_count();
+fn path_of(rt: &impl Env, path: &mut [u64]) -> Spelled {
+    let count = host::word_count(rt);
     let mut depth = 0;
-    let mut i = 4;
-    while i < count {
-        let number = decimal::word(i);
+    for i in 4..count {
+        let number = decimal::word(rt, i);
         if !number.good {
             return Spelled::Nothing;
         }
@@ -29,7 +30,6 @@ fn path_of(path: &mut [u64]) -> Spelled {
         }
         path[depth] = number.value;
         depth += 1;
-        i += 1;
     }
     Spelled::Path { depth }
 }
@@ -43,11 +43,11 @@ fn ask(table: &[u8], path: &[u64], depth: usize, message: &[u8]) -> FindAnswer {
 }
 
 // Finds the item at the path that the command's words spell.
-pub fn find(table: &[u8], message: &[u8]) {
+pub fn find(rt: &(impl Env + Print), table: &[u8], message: &[u8]) -> io::Result<()> {
     let mut path = [0u64; DEEPEST];
-    let Spelled::Path { depth } = path_of(&mut path) else {
-        return say(b"a path is up to 256 numbers in decimal\n");
+    let Spelled::Path { depth } = path_of(rt, &mut path) else {
+        return say(rt, b"a path is up to 256 numbers in decimal\n");
     };
     let answer = ask(table, &path, depth, message);
-    listing::found::show(table, &path, depth, message, answer);
+    listing::found::show(rt, table, &path, depth, message, answer)
 }

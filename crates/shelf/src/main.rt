@@ -11,6 +11,9 @@ mod rows;
 mod shown;
 mod writing;
 
+use std::io;
+use std::rt::{Env, Runtime};
+
 // A command's first word.
 #[derive(Clone, Copy)]
 enum Verb {
@@ -31,8 +34,9 @@ enum Verb {
     Unknown,
 }
 
-fn say_usage() {
+fn say_usage(rt: &impl Print) -> io::Result<()> {
     say::say(
+        rt,
         b"shelf table FILE                    is the table good? its shape as a tree\n\
         shelf read TABLE MESSAGE            each entry of the message on a line, and the rest\n\
         shelf bytes TABLE MESSAGE           the same, each entry with its place and its bytes\n\
@@ -50,57 +54,31 @@ fn say_usage() {
         shelf batch check TABLE BATCH       is the batch good? every message and every row\n\
         shelf batch last TABLE BATCH STORE PRODUCT   the last message of a store and product\n\
         shelf batch compact TABLE BATCH OUT   writes a batch of only the last message of each store and product\n",
-    );
+    )
 }
 
 fn verb_of(word: &[u8]) -> Verb {
-    if check::same(word, b"table") {
-        return Verb::Table;
+    match word {
+        b"table" => Verb::Table,
+        b"read" => Verb::Read,
+        b"bytes" => Verb::Bytes,
+        b"read-strict" => Verb::ReadStrict,
+        b"find" => Verb::Find,
+        b"compare" => Verb::Compare,
+        b"changes" => Verb::Changes,
+        b"append" => Verb::Append,
+        b"frames" => Verb::Frames,
+        b"frame" => Verb::Frame,
+        b"export" => Verb::Export,
+        b"import" => Verb::Import,
+        b"write" => Verb::Write,
+        b"batch" => Verb::Batch,
+        _ => Verb::Unknown,
     }
-    if check::same(word, b"read") {
-        return Verb::Read;
-    }
-    if check::same(word, b"bytes") {
-        return Verb::Bytes;
-    }
-    if check::same(word, b"read-strict") {
-        return Verb::ReadStrict;
-    }
-    if check::same(word, b"find") {
-        return Verb::Find;
-    }
-    if check::same(word, b"compare") {
-        return Verb::Compare;
-    }
-    if check::same(word, b"changes") {
-        return Verb::Changes;
-    }
-    if check::same(word, b"append") {
-        return Verb::Append;
-    }
-    if check::same(word, b"frames") {
-        return Verb::Frames;
-    }
-    if check::same(word, b"frame") {
-        return Verb::Frame;
-    }
-    if check::same(word, b"export") {
-        return Verb::Export;
-    }
-    if check::same(word, b"import") {
-        return Verb::Import;
-    }
-    if check::same(word, b"write") {
-        return Verb::Write;
-    }
-    if check::same(word, b"batch") {
-        return Verb::Batch;
-    }
-    Verb::Unknown
 }
 
 // Whether a command with this verb may have so many words; a path may be of any length.
-fn fits(verb: Verb, count: usize) -> bool {
+fn fits(rt: &impl Env, verb: Verb, count: usize) -> bool {
     match verb {
         Verb::Table => count == 3,
         Verb::Frames => count == 2 || count == 3,
@@ -109,76 +87,79 @@ fn fits(verb: Verb, count: usize) -> bool {
         Verb::Find => 4 <= count,
         Verb::Compare | Verb::Changes | Verb::Import => count == 5,
         Verb::Write => count == 6,
-        Verb::Batch => batching::fits(count),
+        Verb::Batch => batching::fits(rt, count),
         Verb::Unknown => false,
     }
 }
 
 // shelf append OLD NEW, with the old table.
-fn run_on_new(old: &[u8]) {
+fn run_on_new(rt: &impl Runtime, old: &[u8]) -> io::Result<()> {
     let mut room = files::large_room();
-    let loaded = files::load(3, &mut room);
+    let loaded = files::load(rt, 3, &mut room)?;
     let whole = loaded.whole;
     let len = loaded.len;
     if whole {
-        shown::ask(old, &room[..len]);
+        shown::ask(rt, old, &room[..len])?;
     }
+    Ok(())
 }
 
 // shelf read, bytes, read-strict, find or export TABLE MESSAGE, shelf compare or changes TABLE ONE OTHER, or shelf write TABLE VALUES
 // POOL OUT, with the table.
-fn run_on_file(verb: Verb, table: &[u8]) {
+fn run_on_file(rt: &impl Runtime, verb: Verb, table: &[u8]) -> io::Result<()> {
     let mut room = files::large_room();
-    let loaded = files::load(3, &mut room);
+    let loaded = files::load(rt, 3, &mut room)?;
     let whole = loaded.whole;
     let len = loaded.len;
     if whole {
         match verb {
-            Verb::Read => shown::read(table, &room[..len], false),
-            Verb::Bytes => shown::read(table, &room[..len], true),
-            Verb::ReadStrict => shown::read_strictly(table, &room[..len]),
-            Verb::Find => finding::find(table, &room[..len]),
-            Verb::Compare => comparing::compare_with(table, &room[..len], false),
-            Verb::Changes => comparing::compare_with(table, &room[..len], true),
-            Verb::Export => rows::export(table, &room[..len]),
-            _ => writing::write_values(table, &room[..len]),
-        }
+            Verb::Read => shown::read(rt, table, &room[..len], false),
+            Verb::Bytes => shown::read(rt, table, &room[..len], true),
+            Verb::ReadStrict => shown::read_strictly(rt, table, &room[..len]),
+            Verb::Find => finding::find(rt, table, &room[..len]),
+            Verb::Compare => comparing::compare_with(rt, table, &room[..len], false),
+            Verb::Changes => comparing::compare_with(rt, table, &room[..len], true),
+            Verb::Export => rows::export(rt, table, &room[..len]),
+            _ => writing::write_values(rt, table, &room[..len]),
+        }?;
     }
+    Ok(())
 }
 
 // A command that names a table first.
-fn run_on_table(verb: Verb) {
+fn run_on_table(rt: &impl Runtime, verb: Verb) -> io::Result<()> {
     let mut room = files::large_room();
-    let loaded = files::load(2, &mut room);
+    let loaded = files::load(rt, 2, &mut room)?;
     let whole = loaded.whole;
     let len = loaded.len;
     if whole {
         let table = &room[..len];
         match verb {
-            Verb::Table => listing::tree::show(table),
-            Verb::Append => run_on_new(table),
-            Verb::Import => rows::import(table),
-            _ => run_on_file(verb, table),
-        }
+            Verb::Table => listing::tree::show(rt, table),
+            Verb::Append => run_on_new(rt, table),
+            Verb::Import => rows::import(rt, table),
+            _ => run_on_file(rt, verb, table),
+        }?;
     }
+    Ok(())
 }
 
-fn run(verb: Verb) {
+fn run(rt: &impl Runtime, verb: Verb) -> io::Result<()> {
     match verb {
-        Verb::Frames => frames::run(),
-        Verb::Frame => frames::send(),
-        Verb::Batch => batching::run(),
-        Verb::Unknown => say_usage(),
-        _ => run_on_table(verb),
+        Verb::Frames => frames::run(rt),
+        Verb::Frame => frames::send(rt),
+        Verb::Batch => batching::run(rt),
+        Verb::Unknown => say_usage(rt),
+        _ => run_on_table(rt, verb),
     }
 }
 
-fn main() {
-    let mut word = io::buffer();
-    let n = os::arg(1, &mut word);
+fn main(rt: HostRuntime) -> io::Result<()> {
+    let mut word = host::buffer();
+    let n = host::word(&rt, 1, &mut word);
     let asked = verb_of(&word[..n]);
-    if !fits(asked, os::arg_count()) {
-        return say_usage();
+    if !fits(&rt, asked, host::word_count(&rt)) {
+        return say_usage(&rt);
     }
-    run(asked);
+    run(&rt, asked)
 }

@@ -2,16 +2,20 @@
 use crate::{files, shown};
 use desk::CsvAnswer;
 use say::{front, say, say_with};
+use std::io;
+use std::rt::Runtime;
 
 // Why there is no row, or no message of one in so large a room.
-fn say_refused(got: CsvAnswer, what: &[u8], room: usize) {
+fn say_refused(rt: &impl Print, got: CsvAnswer, what: &[u8], room: usize) -> io::Result<()> {
     match got {
-        CsvAnswer::Done { place: _ } => {}
-        CsvAnswer::Refused { why, place } => shown::say_refusal(why, place, what, room),
+        CsvAnswer::Done { place: _ } => Ok(()),
+        CsvAnswer::Refused { why, place } => shown::say_refusal(rt, why, place, what, room),
         CsvAnswer::Unfit => say(
+            rt,
             b"refused: 20, the table has no rows: its root is no struct of at most 1024 numbers, chars, texts and bytes\n",
         ),
         CsvAnswer::NoRow { place } => say_with(
+            rt,
             b"refused: 21, no row of this table goes on so, at byte #\n",
             place as u64,
         ),
@@ -19,32 +23,33 @@ fn say_refused(got: CsvAnswer, what: &[u8], room: usize) {
 }
 
 // The row of a message. No row begins as the words of a refusal do.
-pub fn export(table: &[u8], message: &[u8]) {
+pub fn export(rt: &impl Print, table: &[u8], message: &[u8]) -> io::Result<()> {
     let mut out = files::largest_room();
     let got = csv_rows::export(table, message, &mut out);
     match got {
-        CsvAnswer::Done { place } => say(front(&out, place)),
-        _ => say_refused(got, b"row", files::LARGEST),
+        CsvAnswer::Done { place } => say(rt, front(&out, place)),
+        _ => say_refused(rt, got, b"row", files::LARGEST),
     }
 }
 
 // Puts the message into a room of its own, and that into the file OUT only if all is well.
-fn save_message(table: &[u8], row: &[u8]) {
+fn save_message(rt: &impl Runtime, table: &[u8], row: &[u8]) -> io::Result<()> {
     let mut out = files::large_room();
     let got = csv_rows::import(table, row, &mut out);
     match got {
-        CsvAnswer::Done { place } => files::save(4, front(&out, place)),
-        _ => say_refused(got, b"message", files::LARGE),
+        CsvAnswer::Done { place } => files::save(rt, 4, front(&out, place)),
+        _ => say_refused(rt, got, b"message", files::LARGE),
     }
 }
 
 // shelf import TABLE ROW OUT, with the table.
-pub fn import(table: &[u8]) {
+pub fn import(rt: &impl Runtime, table: &[u8]) -> io::Result<()> {
     let mut room = files::largest_room();
-    let loaded = files::load(3, &mut room);
+    let loaded = files::load(rt, 3, &mut room)?;
     let whole = loaded.whole;
     let len = loaded.len;
     if whole {
-        save_message(table, &room[..len]);
+        save_message(rt, table, &room[..len])?;
     }
+    Ok(())
 }

@@ -2,60 +2,61 @@
 // number and name, how long the rest is, the state's idx and whether it waits, and a frame's message in hex.
 #![tactic(auto)]
 
-ghost use Rattle.std.specs.Prelude.{◌≤◌, ◌<◌};
+ghost use Rattle.std.specs.Prelude.{◌≤◌, ◌<◌, IfOk};
 ghost use Rattle.wire.specs.Frames.{room};
 
 use accumulator::{Accumulator, Fed};
 use say::{front, say, say_bytes, say_number};
+use std::io;
 use wire::FeedAnswer;
 
-fn say_counted(text: &[u8], n: usize) {
-    say(text);
-    say_number(n as u64);
+fn say_counted(rt: &impl Print, text: &[u8], n: usize) -> io::Result<()> {
+    say(rt, text)?;
+    say_number(rt, n as u64)
 }
 
-fn say_answer(answer: FeedAnswer) {
-    say(b"  ");
-    say_number(numbers::feed(answer));
+fn say_answer(rt: &impl Print, answer: FeedAnswer) -> io::Result<()> {
+    say(rt, b"  ")?;
+    say_number(rt, numbers::feed(answer))?;
     match answer {
-        FeedAnswer::Consumed => say(b" consumed"),
-        FeedAnswer::OverFull => say(b" over-full"),
-        FeedAnswer::BadFrame => say(b" bad frame"),
-        FeedAnswer::Frame => say(b" frame"),
-        FeedAnswer::BadState => say(b" bad state"),
+        FeedAnswer::Consumed => say(rt, b" consumed"),
+        FeedAnswer::OverFull => say(rt, b" over-full"),
+        FeedAnswer::BadFrame => say(rt, b" bad frame"),
+        FeedAnswer::Frame => say(rt, b" frame"),
+        FeedAnswer::BadState => say(rt, b" bad state"),
     }
 }
 
-fn say_fed(fed: Fed, rest: usize) {
+fn say_fed(rt: &impl Print, fed: Fed, rest: usize) -> io::Result<()> {
     let answer = fed.answer;
     let state = fed.state;
     let message = fed.message;
-    say_answer(answer);
-    say_counted(b", rest ", rest);
-    say_counted(b", idx ", state.idx);
+    say_answer(rt, answer)?;
+    say_counted(rt, b", rest ", rest)?;
+    say_counted(rt, b", idx ", state.idx)?;
     if state.waiting {
-        say(b", waiting");
+        say(rt, b", waiting")?;
     }
-    say(b", message");
-    say_bytes(front(&message, fed.len));
-    say(b"\n");
+    say(rt, b", message")?;
+    say_bytes(rt, front(&message, fed.len))?;
+    say(rt, b"\n")
 }
 
 // Feeds a chunk until nothing is left of it.
-fn feed_all(state: Accumulator, chunk: &[u8]) -> Accumulator
+fn feed_all(rt: &impl Print, state: Accumulator, chunk: &[u8]) -> io::Result<Accumulator>
     requires { state.idx ≤ room }
-    ensures { result.idx ≤ room }
+    ensures { IfOk result (λ left. left.idx ≤ room) }
 {
     let mut state = state;
     let mut left = chunk;
     while 0 < left.len() {
         let fed = accumulator::feed(state, left);
         let rest = accumulator::rest(left, fed);
-        say_fed(fed, rest.len());
+        say_fed(rt, fed, rest.len())?;
         left = rest;
         state = fed.state;
     }
-    state
+    Ok(state)
 }
 
 // Where the chunk that starts at `at` ends: it has 1 to 61 bytes.
@@ -67,17 +68,17 @@ fn cut(at: usize, end: usize) -> usize
     if end - at < size { end } else { at + size }
 }
 
-fn main() {
-    let mut input = io::large_buffer();
-    let end = io::read_full(0, &mut input);
+fn main(rt: HostRuntime) -> io::Result<()> {
+    let mut input = host::large_buffer();
+    let end = host::read_full(&mut rt.stdin(), &mut input)?;
     let mut state = Accumulator::new();
     let mut at = 0;
     while at < end {
         let to = cut(at, end);
-        say_counted(b"chunk of ", to - at);
-        say(b"\n");
-        let next = feed_all(state, &input[at..to]);
-        state = next;
+        say_counted(&rt, b"chunk of ", to - at)?;
+        say(&rt, b"\n")?;
+        state = feed_all(&rt, state, &input[at..to])?;
         at = to;
     }
+    Ok(())
 }

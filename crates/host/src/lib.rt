@@ -1,0 +1,92 @@
+// What the programs ask of the system: the command's words, standard input and files, in lent memory; and why a file failed.
+#![tactic(auto)]
+
+ghost use Rattle.std.specs.Prelude.{◌≡◌, ◌≤◌, length};
+ghost use Rattle.std.specs.Io.{ReadsAtMost};
+
+use std::env::FillError;
+use std::io::{Error, ErrorKind, Read};
+use std::rt::{Env, Files};
+use std::{fs, io};
+
+// 4,096 zeros, which hold any path.
+pub fn buffer() -> [u8; 4096]
+    ensures { 4096 ≡ length result }
+{
+    [0; 4096]
+}
+
+pub fn large_buffer() -> [u8; 65536]
+    ensures { 65536 ≡ length result }
+{
+    [0; 65536]
+}
+
+// How many words the command has, the program's name among them.
+pub fn word_count(rt: &impl Env) -> usize {
+    let mut first = [0u8; 1];
+    for i in 0..usize::MAX {
+        if let Err(FillError::NotPresent) = rt.arg(i, &mut first) {
+            return i;
+        }
+    }
+    usize::MAX
+}
+
+// Puts the command's word i in front of the room, and says how long it is: 0 where it isn't there or is longer than the room.
+pub fn word(rt: &impl Env, i: usize, room: &mut [u8]) -> usize
+    ensures { result ≤ length room.new }
+{
+    match rt.arg(i, room) {
+        Ok(n) => n,
+        Err(_) => 0,
+    }
+}
+
+// Reads until the room is full or the input ends, and says how many bytes stand in front.
+pub fn read_full<R: Read>(from: &mut R, room: &mut [u8]) -> io::Result<usize>
+    ensures { ReadsAtMost result room.new }
+{
+    let mut done = 0;
+    while done < room.len() {
+        let n = from.read(&mut room[done..])?;
+        if n == 0 {
+            break;
+        }
+        done += n;
+    }
+    Ok(done)
+}
+
+// A path is text.
+fn path_of(path: &[u8]) -> io::Result<&str> {
+    match str::from_utf8(path) {
+        Ok(text) => Ok(text),
+        Err(_) => Err(Error::from(ErrorKind::InvalidFilename)),
+    }
+}
+
+pub fn open<R: Files>(rt: &R, path: &[u8]) -> io::Result<R::File> {
+    fs::open(rt, path_of(path)?)
+}
+
+// Puts bytes into a file in place of what it held, or into a new one.
+pub fn write(rt: &impl Files, path: &[u8], bytes: &[u8]) -> io::Result<()> {
+    fs::write(rt, path_of(path)?, bytes)
+}
+
+// An error's words, without the number that the system has for it.
+fn words_of(why: &str) -> &str {
+    match why.split_once(" (os error ") {
+        Some((words, _)) => words,
+        None => why,
+    }
+}
+
+// A line on standard error: what failed, and why.
+pub fn fail<R: Eprint + Alloc>(rt: &R, what: &[u8], why: Error) -> io::Result<()> {
+    let name = String::from_utf8_lossy(rt.alloc(), what)?;
+    let told = format!(in rt.alloc(); "{why}")?;
+    let words = words_of(told.as_str());
+    eprintln!(rt; "{name}: {words}")
+}

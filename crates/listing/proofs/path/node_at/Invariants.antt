@@ -1,0 +1,6 @@
+-- A good table's root and children are nodes of it.
+use Rattle.std.proofs.Common.{◌<◌}
+use Rattle.listing.proofs.path.node_at.Given as goal
+
+abbrev pub invariant-loop-i : goal.invariant-loop-i
+invariant-loop-i g l = l.node < l.l.nodes

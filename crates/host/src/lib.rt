@@ -1,7 +1,7 @@
 // What the programs ask of the system: the command's words, standard input and files, in lent memory; and why a file failed.
 #![tactic(auto)]
 
-ghost use Rattle.std.specs.Prelude.{◌≡◌, ◌≤◌, length};
+ghost use Rattle.std.specs.Prelude.{◌≡◌, ◌≤◌, length, IfErr};
 ghost use Rattle.std.specs.Io.{ReadsAtMost};
 
 use std::env::FillError;
@@ -45,7 +45,8 @@ pub fn word(rt: &impl Env, i: usize, room: &mut [u8]) -> usize
 
 // Reads until the room is full or the input ends, and says how many bytes stand in front.
 pub fn read_full<R: Read>(from: &mut R, room: &mut [u8]) -> io::Result<usize>
-    ensures { ReadsAtMost result room.new }
+    ensures ok { ReadsAtMost result room.new }
+    ensures err { IfErr result (λ why. length room.new ≡ length room.old) }
 {
     let mut done = 0;
     while done < room.len() {

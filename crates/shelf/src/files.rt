@@ -1,5 +1,5 @@
 // A file named by a word of the command, whole or not at all.
-ghost use Rattle.std.specs.Prelude.{◌≡◌, ◌*◌, ◌≤◌, length, IfOk};
+ghost use Rattle.std.specs.Prelude.{◌≡◌, ◌*◌, ◌≤◌, length, IfOk, IfErr};
 ghost use Rattle.wire.specs.Answers.{words_per};
 
 use say::{say, say_with};
@@ -63,7 +63,8 @@ const NOTHING: Loaded = Loaded {
 };
 
 fn load_from(rt: &impl Runtime, path: &[u8], room: &mut [u8]) -> io::Result<Loaded>
-    ensures { IfOk result (λ loaded. loaded.len ≤ length room.new) }
+    ensures ok { IfOk result (λ loaded. loaded.len ≤ length room.new) }
+    ensures err { IfErr result (λ why. length room.new ≡ length room.old) }
 {
     let mut file = match host::open(rt, path) {
         Ok(file) => file,
@@ -86,7 +87,8 @@ fn load_from(rt: &impl Runtime, path: &[u8], room: &mut [u8]) -> io::Result<Load
 
 // The file that the command's word i names, in front of the room.
 pub fn load(rt: &impl Runtime, i: usize, room: &mut [u8]) -> io::Result<Loaded>
-    ensures { IfOk result (λ loaded. loaded.len ≤ length room.new) }
+    ensures ok { IfOk result (λ loaded. loaded.len ≤ length room.new) }
+    ensures err { IfErr result (λ why. length room.new ≡ length room.old) }
 {
     let mut path = host::buffer();
     let n = host::word(rt, i, &mut path);

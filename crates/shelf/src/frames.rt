@@ -1,5 +1,5 @@
 // A recorded stream of any length, fed to the accumulator chunk by chunk; and a message as a frame, to be sent.
-ghost use Rattle.std.specs.Prelude.{◌≡◌, ◌+◌, ◌^◌, ◌≤◌, ◌<◌, length, IfOk};
+ghost use Rattle.std.specs.Prelude.{◌≡◌, ◌+◌, ◌^◌, ◌≤◌, ◌<◌, length, IfOk, IfErr};
 ghost use Rattle.wire.specs.Frames.{room};
 
 use crate::{files, shown};
@@ -98,7 +98,8 @@ fn read_some<S: Read>(
     at: usize,
     chunk: &mut [u8],
 ) -> io::Result<usize>
-    ensures { IfOk result (λ n. (n ≤ length chunk.new) × (at + n < 2 ^ 64)) }
+    ensures ok { IfOk result (λ n. (n ≤ length chunk.new) × (at + n < 2 ^ 64)) }
+    ensures err { IfErr result (λ why. length chunk.new ≡ length chunk.old) }
 {
     let n = match from.read(chunk) {
         Ok(n) => n,

@@ -6,10 +6,10 @@ use Rattle.laws.proofs.Areas.{area-bytes, area-short, asks-short}
 use Rattle.append.proofs.appends.Goals as goal
 
 pub ask_and_clear-requires : goal.ask_and_clear-requires
-ask_and_clear-requires c = (area-bytes, c.if-area-ge-AREA.true)
+ask_and_clear-requires c = (area-bytes, omega arith)
 
 pub returns : goal.returns
-returns c = let shorter = c.if-area-ge-AREA.false in record {
+returns c = record {
   answered = sym (asks-short _ _ _ (omega (arith, area-bytes)));
   stored = sym (area-short _ (omega (arith, area-bytes)));
 }

@@ -5,7 +5,7 @@ ghost use Rattle.std.specs.Prelude.{◌≡◌, ◌≤◌, length, IfErr};
 ghost use Rattle.std.specs.Io.{ReadsAtMost};
 
 use std::env::FillError;
-use std::io::{Error, ErrorKind, Read};
+use std::io::{Error, ErrorKind, Read, Write};
 use std::rt::{Env, Files};
 use std::{fs, io};
 
@@ -84,10 +84,30 @@ fn words_of(why: &str) -> &str {
     }
 }
 
+// An error's words and its number fit: the system's longest are some fifty bytes.
+const ROOM: usize = 512;
+
+// A name on standard error; what is no text in it is shown as U+FFFD.
+fn eprint_name(rt: &impl Eprint, name: &[u8]) -> io::Result<()> {
+    for chunk in name.utf8_chunks() {
+        rt.eprint(chunk.valid())?;
+        if !chunk.invalid().is_empty() {
+            rt.eprint("\u{fffd}")?;
+        }
+    }
+    Ok(())
+}
+
 // A line on standard error: what failed, and why.
-pub fn fail<R: Eprint + Alloc>(rt: &R, what: &[u8], why: Error) -> io::Result<()> {
-    let name = String::from_utf8_lossy(rt.alloc(), what)?;
-    let told = format!(in rt.alloc(); "{why}")?;
-    let words = words_of(told.as_str());
-    eprintln!(rt; "{name}: {words}")
+pub fn fail(rt: &impl Eprint, what: &[u8], why: Error) -> io::Result<()> {
+    let mut room = [0u8; ROOM];
+    let mut rest = &mut room[..];
+    write!(rest, "{why}")?;
+    let left = rest.len();
+    let told = &room[..ROOM.saturating_sub(left)];
+    eprint_name(rt, what)?;
+    match str::from_utf8(told) {
+        Ok(words) => eprintln!(rt; ": {}", words_of(words)),
+        Err(_) => eprintln!(rt; ": an error"),
+    }
 }

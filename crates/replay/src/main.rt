@@ -74,7 +74,7 @@ fn replay_list(rt: &impl Print, kind: Kind, name: &[u8], list: &[u8]) -> io::Res
     println!(rt; "{sum:08x}")
 }
 
-fn replay<R: Files + Print + Eprint + Alloc>(rt: &R, kind: Kind, path: &[u8]) -> io::Result<()> {
+fn replay<R: Files + Print + Eprint>(rt: &R, kind: Kind, path: &[u8]) -> io::Result<()> {
     let mut file = match host::open(rt, path) {
         Ok(file) => file,
         Err(why) => return host::fail(rt, path, why),

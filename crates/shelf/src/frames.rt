@@ -92,7 +92,7 @@ fn feed_all(rt: &impl Print, stream: Stream, chunk: &[u8]) -> io::Result<Stream>
 // Reads the stream's next bytes, from a place of it on. There are no more than have a place, which no run comes to; so the
 // loop over them ends.
 fn read_some<S: Read>(
-    rt: &(impl Eprint + Alloc),
+    rt: &impl Eprint,
     from: &mut S,
     path: &[u8],
     at: usize,
@@ -135,7 +135,7 @@ fn say_end(rt: &impl Print, stream: Stream) -> io::Result<()>
     Ok(())
 }
 
-fn show<S: Read>(rt: &(impl Print + Eprint + Alloc), from: &mut S, path: &[u8]) -> io::Result<()> {
+fn show<S: Read>(rt: &(impl Print + Eprint), from: &mut S, path: &[u8]) -> io::Result<()> {
     let mut chunk = host::buffer();
     let state = Accumulator::new();
     let mut stream = Stream {

@@ -1,6 +1,5 @@
 // Items taken one after the other from a message, each by its kind: a record of the message and the place, and the same calls
-// with the message and the place as parameters. The borrow checker covers no function over the record, so each of those is
-// proved by hand and leaves the work to a covered one.
+// with the message and the place as parameters.
 #![tactic(auto)]
 
 ghost use Rattle.std.specs.Prelude.{◌≡◌, drop};

@@ -4,7 +4,7 @@
 
 use say::{say, say_number};
 use std::io;
-use wire::{AskAnswer, ReadAnswer};
+use wire::{NotAsked, Reached, Stopped};
 
 fn say_counted(rt: &impl Print, text: &[u8], n: u64) -> io::Result<()> {
     say(rt, text)?;
@@ -27,19 +27,19 @@ fn work_area() -> [u8; append::AREA] {
 fn say_question(rt: &impl Print, old: &[u8], new: &[u8]) -> io::Result<()> {
     let mut area = work_area();
     match append::appends(old, new, &mut area) {
-        AskAnswer::Says { yes } => {
+        Ok(yes) => {
             if yes {
                 say(rt, b"yes, it only appends.\n")
             } else {
                 say(rt, b"no, it does not only append.\n")
             }
         }
-        AskAnswer::Refused {
+        Err(NotAsked::Table {
             side: _,
             why: _,
             place: _,
-        } => say(rt, b"a table is not good.\n"),
-        AskAnswer::ShortArea => say(rt, b"the work area is too short.\n"),
+        }) => say(rt, b"a table is not good.\n"),
+        Err(NotAsked::ShortArea) => say(rt, b"the work area is too short.\n"),
     }
 }
 
@@ -47,17 +47,17 @@ fn say_question(rt: &impl Print, old: &[u8], new: &[u8]) -> io::Result<()> {
 fn say_reading(rt: &impl Print, old: &[u8], message: &[u8]) -> io::Result<()> {
     let mut store = [0u64; 4 * entry::WORDS];
     match reader::read(old, message, &mut store) {
-        ReadAnswer::Done { place: _, count: _ } => {
+        Ok(Reached { place: _, count: _ }) => {
             say_counted(rt, b"The old table would read store ", store[entry::WORDS])?;
             say_counted(rt, b", product ", store[2 * entry::WORDS])?;
             say_signed(rt, b", count ", store[3 * entry::WORDS])?;
             say(rt, b", and no error.\n")
         }
-        ReadAnswer::Refused {
+        Err(Stopped {
             why: _,
             place: _,
             count: _,
-        } => say(rt, b"The old table would refuse it.\n"),
+        }) => say(rt, b"The old table would refuse it.\n"),
     }
 }
 

@@ -6,7 +6,7 @@ use recorded::field::part;
 use recorded::memory::same_words;
 use say::{front, say, say_bytes, say_why, say_with};
 use std::io;
-use wire::{ReadAnswer, WriteAnswer};
+use wire::{Reached, RefusedAt, Stopped};
 
 // So many messages are in the list.
 const MESSAGES: usize = 9;
@@ -28,8 +28,8 @@ fn write_again(
 ) -> io::Result<()> {
     let mut out = [0xeeu8; ROOM];
     match writer::write(table, words, message, &mut out) {
-        WriteAnswer::Refused { why: _, place: _ } => say(rt, b"not written again"),
-        WriteAnswer::Done { place } => {
+        Err(RefusedAt { why: _, place: _ }) => say(rt, b"not written again"),
+        Ok(place) => {
             say_with(rt, b"written again to #: ", place as u64)?;
             if front(&out, place) == front(message, read) {
                 return say(rt, b"the same");
@@ -64,13 +64,13 @@ fn read_strictly(
 ) -> io::Result<()> {
     let mut store = [7u64; STORE];
     match reader::read_strict(table, message, &mut store) {
-        ReadAnswer::Done { place: _, count } => {
+        Ok(Reached { place: _, count }) => {
             if same_words(words, entry::front(&store, count)) {
                 return say(rt, b"read strictly too, to the same entries\n");
             }
             say(rt, b"read strictly to other entries\n")
         }
-        ReadAnswer::Refused { why, place, count } => {
+        Err(Stopped { why, place, count }) => {
             say_why(
                 rt,
                 why,
@@ -89,12 +89,12 @@ fn read_strictly(
 fn read_and_write(rt: &impl Print, table: &[u8], message: &[u8]) -> io::Result<()> {
     let mut store = [7u64; STORE];
     match reader::read(table, message, &mut store) {
-        ReadAnswer::Refused {
+        Err(Stopped {
             why: _,
             place: _,
             count: _,
-        } => say(rt, b"not read\n"),
-        ReadAnswer::Done { place, count } => {
+        }) => say(rt, b"not read\n"),
+        Ok(Reached { place, count }) => {
             let words = entry::front(&store, count);
             say_with(rt, b"# byte$ read, ", place as u64)?;
             write_again(rt, table, words, message, place)?;

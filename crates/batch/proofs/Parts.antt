@@ -10,8 +10,8 @@ use borrow.Author.Tests.{le-leb, lt-leb}
 use Rattle.wire.specs.Tests.{pick}
 use Rattle.laws.proofs.Parts.{tail}
 use Rattle.desk.specs.declared.Fault.{Fault}
-use Rattle.desk.specs.declared.BatchFound.{BatchFound}
-use Rattle.desk.specs.declared.BatchFound.TheVariants.{Part, Refused}
+use Rattle.desk.specs.BatchFound.{BatchFound}
+use Rattle.desk.specs.BatchFound.{Part, Refused}
 use Rattle.desk.specs.Batch.{part_of}
 
 pub part-inside : (s : List ℕ) (from len : ℕ) → from + len ≤ length s → take (from + len - from) (drop from s) ≡ part_of s (Part from len)

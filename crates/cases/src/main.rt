@@ -2,10 +2,11 @@
 // comes back. crates/recorded/make has the list.
 #![tactic(auto)]
 
+use wire::{Reached, Stopped};
 use recorded::field::{number_at, part};
 use say::{say, say_bytes, say_entries, say_why, say_with};
 use std::io;
-use wire::ReadAnswer;
+use ReadAnswer;
 
 // So many messages are in the list.
 const MESSAGES: usize = 13;
@@ -27,11 +28,11 @@ fn say_made(rt: &impl Print, store: &[u64], count: usize) -> io::Result<()> {
 fn read_into(rt: &impl Print, table: &[u8], message: &[u8], store: &mut [u64]) -> io::Result<()> {
     let answer = reader::read(table, message, store);
     match answer {
-        ReadAnswer::Done { place, count } => {
+        Ok(Reached { place, count }) => {
             say_with(rt, b": done at #", place as u64)?;
             say_made(rt, store, count)?;
         }
-        ReadAnswer::Refused { why, place, count } => {
+        Err(Stopped { why, place, count }) => {
             say(rt, b": refused ")?;
             say_why(rt, why, b", at #", place)?;
             say_made(rt, store, count)?;

@@ -20,7 +20,7 @@ use Rattle.laws.proofs.Children.{count-children}
 use Rattle.table.specs.Parts.{Falls}
 use Rattle.table.proofs.Stretches.{node-falls}
 use Rattle.desk.specs.Csv.{Style, style_of, Column, and_column, kind_of_root, columns, columns_of, most_fields}
-use Rattle.columns.specs.declared.Found.TheVariants.{Fields, Unfit}
+use Rattle.columns.specs.Found.{Fields, Unfit}
 use Rattle.columns.specs.Columns.{is_some, all_styled, field_shapes, Finds, rows, no_rows}
 
 -- ---- columns

@@ -10,15 +10,15 @@ ghost use Rattle.columns.specs.Columns.{is_some, all_styled, field_shapes, Finds
 
 use wire::Layout;
 
+// So many fields' numbers, which stand at `from` in the table.
+#[derive(Clone, Copy)]
+pub struct Columns {
+    pub from: usize,
+    pub width: usize,
+}
+
 // The most fields of a row.
 const MOST: usize = 1024;
-
-// So many fields' numbers stand at `from` in the table; or it has no rows.
-#[derive(Clone, Copy)]
-pub enum Found {
-    Fields { from: usize, width: usize },
-    Unfit,
-}
 
 // A kind that a row spells: 0 to 13 or 20 to 31.
 fn is_field(number: u8) -> bool
@@ -52,22 +52,22 @@ fn all_fields(table: &[u8], l: Layout, from: usize, width: usize) -> bool
 }
 
 // The fields of a good table's rows.
-pub fn find(table: &[u8], l: Layout) -> Found
+pub fn find(table: &[u8], l: Layout) -> Option<Columns>
     requires { GoodTable table.now l }
     ensures { Finds table.now l result }
 {
     let root = l.root;
     let number = table::kind_at(table, l, root);
     if number != 18 {
-        return Found::Unfit;
+        return None;
     }
     let width = table::child_count(table, l, root);
     if MOST < width {
-        return Found::Unfit;
+        return None;
     }
     let from = table::first_child(table, l, root);
     if all_fields(table, l, from, width) {
-        return Found::Fields { from, width };
+        return Some(Columns { from, width });
     }
-    Found::Unfit
+    None
 }

@@ -2,15 +2,17 @@
 #![tactic(auto)]
 
 ghost use Rattle.std.specs.Prelude.{◌++◌, ◌≡◌, ◌/◌, ◌≤◌, length, take, drop};
-ghost use Rattle.wire.specs.declared.Checked.TheVariants.{Good};
+ghost use Rattle.wire.specs.Checked.{Good};
 ghost use Rattle.wire.specs.Table.{check as check_of};
 ghost use Rattle.desk.specs.Differ.{compares, list_after};
 ghost use Rattle.compare.specs.Pairs.{refusal_of, Kept};
 ghost use Rattle.compare.specs.Promise.{Compares};
 
-use compare_walk::Walked;
-use desk::CompareAnswer;
-use wire::{Checked, Layout, ReadAnswer};
+use compare_walk::Gone;
+use desk::NotCompared;
+use Walked;
+use CompareAnswer;
+use wire::{Layout, Reached, RefusedAt, Stopped};
 
 // How many bytes the shorter of two messages has at most for so many words of pairs to be kept while both are judged. An item that
 // differs has a byte in each, so that the pairs of short messages always find room; and what is kept for is cleared first, so short
@@ -26,26 +28,26 @@ const MIDDLE_WORDS: usize = 1024;
 const LONG_WORDS: usize = 6144;
 
 // Why messages of which one is refused aren't compared: the first one's refusal, or else the second one's.
-fn refusal(table: &[u8], one: &[u8], other: &[u8]) -> CompareAnswer
+fn refusal(table: &[u8], one: &[u8], other: &[u8]) -> Result<usize, NotCompared>
     ensures { result ≡ refusal_of (compares table.now one.now other.now) }
 {
     let first = reader::skim(table, one, compare_walk::ROOM);
     match first {
-        ReadAnswer::Refused {
+        Err(Stopped {
             why,
             place,
             count: _,
-        } => CompareAnswer::Refused { why, place },
-        ReadAnswer::Done { place: _, count: _ } => {
+        }) => Err(NotCompared::Refused { why, place }),
+        Ok(Reached { place: _, count: _ }) => {
             let second = reader::skim(table, other, compare_walk::ROOM);
             match second {
-                ReadAnswer::Refused {
+                Err(Stopped {
                     why,
                     place,
                     count: _,
-                } => CompareAnswer::OtherRefused { why, place },
+                }) => Err(NotCompared::OtherRefused { why, place }),
                 // Neither is refused, which the walk rules out where this is called.
-                ReadAnswer::Done { place: _, count: _ } => CompareAnswer::Short,
+                Ok(Reached { place: _, count: _ }) => Err(NotCompared::Short),
             }
         }
     }
@@ -96,26 +98,26 @@ fn compare_by(
     other: &[u8],
     words: &mut [u64],
     list: &mut [u64],
-) -> CompareAnswer
+) -> Result<usize, NotCompared>
     requires { check_of table.now ≡ Good l }
     ensures { Compares (compares table.now one.now other.now) list.old result list.new }
 {
     let got = compare_walk::walk_root(table, l, one, other, words);
-    let Walked::Both {
+    let Some(Gone {
         one: _,
         other: _,
         ones: _,
         others: _,
         count,
-    } = got
+    }) = got
     else {
         return refusal(table, one, other);
     };
     if compare_item::room(list.len()) < count {
-        return CompareAnswer::Short;
+        return Err(NotCompared::Short);
     }
     put_pairs(table, l, one, other, words, count, list);
-    CompareAnswer::Done { count }
+    Ok(count)
 }
 
 fn shorter(one: usize, other: usize) -> usize {
@@ -132,7 +134,7 @@ fn compare_good(
     one: &[u8],
     other: &[u8],
     list: &mut [u64],
-) -> CompareAnswer
+) -> Result<usize, NotCompared>
     requires { check_of table.now ≡ Good l }
     ensures { Compares (compares table.now one.now other.now) list.old result list.new }
 {
@@ -150,12 +152,12 @@ fn compare_good(
 }
 
 // Compares two messages by a table: the places of the items that differ go into the list, in front and two words each.
-pub fn compare(table: &[u8], one: &[u8], other: &[u8], list: &mut [u64]) -> CompareAnswer
+pub fn compare(table: &[u8], one: &[u8], other: &[u8], list: &mut [u64]) -> Result<usize, NotCompared>
     ensures { Compares (compares table.now one.now other.now) list.old result list.new }
 {
     let checked = table::check(table);
     match checked {
-        Checked::Bad { why, place } => CompareAnswer::Refused { why, place },
-        Checked::Good { layout } => compare_good(table, layout, one, other, list),
+        Err(RefusedAt { why, place }) => Err(NotCompared::Refused { why, place }),
+        Ok(layout) => compare_good(table, layout, one, other, list),
     }
 }

@@ -12,8 +12,8 @@ use lib.Dec.{eqb, leb}
 use borrow.Author.Tests.{leb-true, eq-eqb, ne_eqb}
 use Rattle.wire.specs.declared.Refusal.{Refusal}
 use Rattle.wire.specs.declared.Own.{Own}
-use Rattle.wire.specs.declared.Item.{Item}
-use Rattle.wire.specs.declared.Item.TheVariants.{Took, Refused}
+use Rattle.wire.specs.Item.{Item}
+use Rattle.wire.specs.Item.{Took, Refused}
 use Rattle.wire.specs.Tests.{pick, both}
 use Rattle.wire.specs.Shape.{Width, w16, w32, w64, bits, Sign, signed, unsigned, unit, int, Kind, plain}
 use Rattle.wire.specs.Numbers.{varint, zigzagged, unzigzagged, on_first}
@@ -34,8 +34,8 @@ use Rattle.desk.specs.Differ.{same_bytes}
 use Rattle.beside.specs.Meeting.{content_at, same_own}
 use Rattle.beside.proofs.Same.{bytes-true}
 use Rattle.beside.proofs.Owns.{head-used, head-content}
-use Rattle.compare_item.specs.declared.Taken.{Taken}
-use Rattle.compare_item.specs.declared.Taken.TheVariants.{Both, Unread}
+use Rattle.compare_item.specs.Taken.{Taken}
+use Rattle.compare_item.specs.Taken.{Both, Unread}
 use Rattle.compare_item.specs.Items.{Whole, taken_numbers, taken_both}
 
 -- ---- bytes

@@ -10,11 +10,11 @@ use lib.ListN.{length, take, drop}
 use lib.Dec.{eqb}
 use Rattle.wire.specs.declared.Refusal.{Refusal}
 use Rattle.wire.specs.declared.Own.{Own}
-use Rattle.wire.specs.declared.Item.{Item}
-use Rattle.wire.specs.declared.Item.TheVariants.{Took, Refused}
+use Rattle.wire.specs.Item.{Item}
+use Rattle.wire.specs.Item.{Took, Refused}
 use Rattle.wire.specs.declared.Layout.{Layout}
-use Rattle.wire.specs.declared.ReadAnswer.{ReadAnswer}
-use Rattle.wire.specs.declared.ReadAnswer.TheVariants.{Done, Refused as NotRead}
+use Rattle.wire.specs.ReadAnswer.{ReadAnswer}
+use Rattle.wire.specs.ReadAnswer.{Done, Refused as NotRead}
 use Rattle.wire.specs.Answers.{read_answer}
 use Rattle.wire.specs.Tests.{pick, given}
 use Rattle.wire.specs.Shape.{Kind}
@@ -41,14 +41,14 @@ use Rattle.beside.specs.Laws.{Passes, passes, stops}
 use Rattle.beside.proofs.Readings.{row-meets, rounds-meets}
 use Rattle.beside.proofs.Owns.{head-used}
 use Rattle.compare_item.specs.Pairs.{with_pair, pairs_from}
-use Rattle.compare_item.specs.declared.Taken.{Taken}
-use Rattle.compare_item.specs.declared.Taken.TheVariants.{Both, Unread}
-use Rattle.compare_item.specs.declared.Entered.{Entered}
-use Rattle.compare_item.specs.declared.Entered.TheVariants.{On, Unread as Unentered}
+use Rattle.compare_item.specs.Taken.{Taken}
+use Rattle.compare_item.specs.Taken.{Both, Unread}
+use Rattle.compare_item.specs.Entered.{Entered}
+use Rattle.compare_item.specs.Entered.{On, Unread as Unentered}
 use Rattle.compare_item.specs.Items.{taken_both, entered_both}
 use Rattle.compare_item.proofs.Leaves.{pooled-not}
-use Rattle.compare_walk.specs.declared.Walked.{Walked}
-use Rattle.compare_walk.specs.declared.Walked.TheVariants.{Apart}
+use Rattle.compare_walk.specs.Walked.{Walked}
+use Rattle.compare_walk.specs.Walked.{Apart}
 use Rattle.compare_walk.specs.declared.Walked.TheVariants as walked
 use Rattle.compare_walk.specs.Steps.{Left, went, stopped, lay, Gives, passed_by, passed}
 use Rattle.compare_walk.proofs.Laying.{lay-nothing, lay-over, lay-fits, lay-after, gives-stopped, gives-went}

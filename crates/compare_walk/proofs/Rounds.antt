@@ -14,9 +14,9 @@ use Rattle.table.specs.Parts.{under}
 use Rattle.desk.specs.Differ.{Sides, beside}
 use Rattle.beside.specs.Meeting.{same_own, Met, met_after, meet_then, meet_two, meet_item, meeting}
 use Rattle.compare_item.specs.Pairs.{pairs_from}
-use Rattle.compare_walk.specs.declared.Begun.{Begun}
-use Rattle.compare_walk.specs.declared.Begun.TheVariants.{At, Full}
-use Rattle.compare_walk.specs.declared.Walked.TheVariants.{Apart}
+use Rattle.compare_walk.specs.Begun.{Begun}
+use Rattle.compare_walk.specs.Begun.{At, Full}
+use Rattle.compare_walk.specs.Walked.{Apart}
 use Rattle.compare_walk.specs.Steps.{Left, lay, Gives, Begins, bare, put, full}
 use Rattle.compare_walk.proofs.Laying.{after-over, lay-after, on_by, lay-then, gives-stopped}
 

@@ -25,8 +25,8 @@ use Rattle.beside.specs.Meeting.{Met, met, unread, meet_then, meeting}
 use Rattle.beside.specs.Laws.{Meets, ends, first, second, MeetsReads}
 use Rattle.beside.proofs.Readings.{shape-meets, row-meets}
 use Rattle.compare_item.specs.Pairs.{pairs_from}
-use Rattle.compare_walk.specs.declared.Walked.{Walked}
-use Rattle.compare_walk.specs.declared.Walked.TheVariants.{Both, Apart}
+use Rattle.compare_walk.specs.Walked.{Walked}
+use Rattle.compare_walk.specs.Walked.{Both, Apart}
 use Rattle.compare_walk.specs.Steps.{Left, went, stopped, lay, Gives, goes, stops}
 use Rattle.compare_walk.proofs.Laying.{lay-nothing, on_by, lay-then, gives-stopped, gives-went}
 

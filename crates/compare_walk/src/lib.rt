@@ -3,7 +3,7 @@
 #![tactic(auto)]
 
 ghost use Rattle.std.specs.Prelude.{false, ◌≡◌, ◌+◌, ◌-◌, ◌^◌, ◌≤◌, ◌<◌, length};
-ghost use Rattle.wire.specs.declared.Checked.TheVariants.{Good};
+ghost use Rattle.wire.specs.Checked.{Good};
 ghost use Rattle.wire.specs.Table.{check, shape_of};
 ghost use Rattle.wire.specs.Walk.{walk};
 ghost use Rattle.wire.specs.Reading.{head, front, reading, fit};
@@ -15,50 +15,47 @@ ghost use Rattle.desk.specs.Differ.{beside};
 ghost use Rattle.beside.specs.Meeting.{meeting};
 ghost use Rattle.compare_walk.specs.Steps.{lay, Gives, Begins, passed};
 
-use compare_item::{Entered, Taken};
+use compare_item::{Both, Inside};
 use table::Stretch;
-use wire::{Layout, ReadAnswer};
+use wire::{Layout, Reached};
+
+// Where both messages are gone over to, the entries that each made, and the pairs.
+#[derive(Clone, Copy)]
+pub struct Gone {
+    pub one: usize,
+    pub other: usize,
+    pub ones: usize,
+    pub others: usize,
+    pub count: usize,
+}
+
+// A round's front: the entries that are made then.
+#[derive(Clone, Copy)]
+pub struct Heads {
+    pub ones: usize,
+    pub others: usize,
+}
 
 // Each message is read as with a store of so many entries.
 pub const ROOM: usize = 16384;
 
-// Where both messages are gone over to, the entries that each made, and the pairs; or one of them is refused.
-#[derive(Clone, Copy)]
-pub enum Walked {
-    Both {
-        one: usize,
-        other: usize,
-        ones: usize,
-        others: usize,
-        count: usize,
-    },
-    Apart,
-}
-
 // ---- rounds
 
-// A round's front: the entries that are made then, or no room for its own.
-#[derive(Clone, Copy)]
-enum Begun {
-    At { ones: usize, others: usize },
-    Full,
-}
-
-fn begin(headed: bool, ones: usize, others: usize) -> Begun
+fn begin(headed: bool, ones: usize, others: usize) -> Option<Heads>
     ensures { Begins most_entries ones others headed result }
 {
     if headed {
         if ones < ROOM {
             if others < ROOM {
-                return Begun::At {
+                return Some(Heads {
                     ones: ones + 1,
                     others: others + 1,
-                };
+                });
             }
         }
-        return Begun::Full;
+        return None;
     }
-    Begun::At { ones, others }
+    Some(Heads { ones, others })
 }
 
 // ---- behind an item that differs
@@ -77,7 +74,7 @@ fn pass(
     ones: usize,
     others: usize,
     count: usize,
-) -> Walked
+) -> Option<Gone>
     requires good_table { GoodTable table.now l }
     requires node_le_nodes { node ≤ l.nodes }
     requires falls { Falls table.now to.from to.width node }
@@ -89,12 +86,12 @@ fn pass(
     let got = reader::skim_rounds(
         table, l, node, to.rounds, to.from, to.width, part, place, ROOM, ones,
     );
-    let ReadAnswer::Done {
+    let Ok(Reached {
         place: behind,
         count: made,
-    } = got
+    }) = got
     else {
-        return Walked::Apart;
+        return None;
     };
     let beside = reader::skim_rounds(
         table,
@@ -108,20 +105,20 @@ fn pass(
         ROOM,
         others,
     );
-    let ReadAnswer::Done {
+    let Ok(Reached {
         place: beyond,
         count: more,
-    } = beside
+    }) = beside
     else {
-        return Walked::Apart;
+        return None;
     };
-    Walked::Both {
+    Some(Gone {
         one: behind,
         other: beyond,
         ones: made,
         others: more,
         count,
-    }
+    })
 }
 
 // ---- the cycle: an item, one with children, the rounds of the stretch that follows it, one round
@@ -140,7 +137,7 @@ fn walk_item(
     others: usize,
     list: &mut [u64],
     count: usize,
-) -> Walked
+) -> Option<Gone>
     requires good_table { GoodTable table.now l }
     requires node_lt_nodes { node < l.nodes }
     requires part_bound { place + length part.now < 2 ^ 64 }
@@ -149,10 +146,10 @@ fn walk_item(
     ensures { Gives (lay most_entries (node_step meeting table.now l node (beside (spot part.now place) (spot other.now there))) ones others count list.old) result list.new }
 {
     if ROOM <= ones {
-        return Walked::Apart;
+        return None;
     }
     if ROOM <= others {
-        return Walked::Apart;
+        return None;
     }
     let number = table::kind_at(table, l, node);
     if table::is_inner(number) {
@@ -161,36 +158,36 @@ fn walk_item(
         );
     }
     let taken = compare_item::take_leaf(number, part, place, other, there);
-    let Taken::Both {
+    let Some(Both {
         same,
         used,
         other: beyond,
-    } = taken
+    }) = taken
     else {
-        return Walked::Apart;
+        return None;
     };
     let after = place + used;
     let behind = there + beyond;
     let next = ones + 1;
     let more = others + 1;
     if same {
-        return Walked::Both {
+        return Some(Gone {
             one: after,
             other: behind,
             ones: next,
             others: more,
             count,
-        };
+        });
     }
     compare_item::put(list, count, place, there);
     let pairs = count + 1;
-    Walked::Both {
+    Some(Gone {
         one: after,
         other: behind,
         ones: next,
         others: more,
         count: pairs,
-    }
+    })
 }
 
 // An item that has children. It is apart from `walk_item`, so that only here everything is laid out for the call in a cycle.
@@ -208,7 +205,7 @@ fn walk_inner(
     others: usize,
     list: &mut [u64],
     count: usize,
-) -> Walked
+) -> Option<Gone>
     requires good_table { GoodTable table.now l }
     requires node_lt_nodes { node < l.nodes }
     requires inner { Inner table.now l node number }
@@ -219,15 +216,15 @@ fn walk_inner(
     ensures { Gives (lay most_entries (node_step meeting table.now l node (beside (spot part.now place) (spot other.now there))) ones others count list.old) result list.new }
 {
     let entered = compare_item::enter(table, l, node, number, part, place, other, there);
-    let Entered::On {
+    let Some(Inside {
         same,
         used,
         to,
         other: past,
         toward,
-    } = entered
+    }) = entered
     else {
-        return Walked::Apart;
+        return None;
     };
     let after = place + used;
     let beyond = there + past;
@@ -288,7 +285,7 @@ fn walk_rounds(
     others: usize,
     list: &mut [u64],
     count: usize,
-) -> Walked
+) -> Option<Gone>
     requires good_table { GoodTable table.now l }
     requires node_le_nodes { node ≤ l.nodes }
     requires falls { Falls table.now from width node }
@@ -307,25 +304,25 @@ fn walk_rounds(
     let mut turns = rounds;
     while 0 < turns {
         let begun = begin(headed, made, more);
-        let Begun::At {
+        let Some(Heads {
             ones: ready,
             others: set,
-        } = begun
+        }) = begun
         else {
-            return Walked::Apart;
+            return None;
         };
         let got = walk_stretch(
             table, l, node, from, width, rest, at, left, by, ready, set, list, pairs,
         );
-        let Walked::Both {
+        let Some(Gone {
             one,
             other: beyond,
             ones: first,
             others: second,
             count: so_far,
-        } = got
+        }) = got
         else {
-            return Walked::Apart;
+            return None;
         };
         let used = one - at;
         rest = &rest[used..];
@@ -338,13 +335,13 @@ fn walk_rounds(
         pairs = so_far;
         turns = turns - 1;
     }
-    Walked::Both {
+    Some(Gone {
         one: at,
         other: by,
         ones: made,
         others: more,
         count: pairs,
-    }
+    })
 }
 
 #[cycle(walk_inner_walk_item_walk_rounds_walk_stretch)]
@@ -362,7 +359,7 @@ fn walk_stretch(
     others: usize,
     list: &mut [u64],
     count: usize,
-) -> Walked
+) -> Option<Gone>
     requires good_table { GoodTable table.now l }
     requires node_le_nodes { node ≤ l.nodes }
     requires falls { Falls table.now from width node }
@@ -383,15 +380,15 @@ fn walk_stretch(
     while 0 < turns {
         let c = table::u16_at(table, child);
         let got = walk_item(table, l, c, rest, at, left, by, made, more, list, pairs);
-        let Walked::Both {
+        let Some(Gone {
             one,
             other: beyond,
             ones: first,
             others: second,
             count: so_far,
-        } = got
+        }) = got
         else {
-            return Walked::Apart;
+            return None;
         };
         let used = one - at;
         rest = &rest[used..];
@@ -405,19 +402,19 @@ fn walk_stretch(
         child = child + 2;
         turns = turns - 1;
     }
-    Walked::Both {
+    Some(Gone {
         one: at,
         other: by,
         ones: made,
         others: more,
         count: pairs,
-    }
+    })
 }
 
 // ---- the root
 
 // Both messages as a good table's root has them.
-pub fn walk_root(table: &[u8], l: Layout, one: &[u8], other: &[u8], list: &mut [u64]) -> Walked
+pub fn walk_root(table: &[u8], l: Layout, one: &[u8], other: &[u8], list: &mut [u64]) -> Option<Gone>
     requires { check table.now ≡ Good l }
     ensures { Gives (lay most_entries (walk meeting (shape_of table.now l) (beside (front one.now) (front other.now))) 0 0 0 list.old) result list.new }
 {

@@ -7,22 +7,25 @@ ghost use Rattle.desk.specs.Csv.{csv_export};
 ghost use Rattle.export_row.specs.Outputs.{Gives};
 ghost use Rattle.csv_rows.specs.Promise.{GivesImport};
 
-use columns::Found;
-use desk::CsvAnswer;
-use wire::Checked;
+use columns::Columns;
+use desk::NotRows;
+use wire::RefusedAt;
+use Found;
+use CsvAnswer;
+use Checked;
 
 // Writes the row of a message by a table: how many bytes, which stand in front in the output, or why not.
-pub fn export(table: &[u8], message: &[u8], out: &mut [u8]) -> CsvAnswer
+pub fn export(table: &[u8], message: &[u8], out: &mut [u8]) -> Result<usize, NotRows>
     ensures { Gives (csv_export table.now message.now (length out.old)) out.old result out.new }
 {
     let checked = table::check(table);
     match checked {
-        Checked::Bad { why, place } => CsvAnswer::Refused { why, place },
-        Checked::Good { layout } => {
+        Err(RefusedAt { why, place }) => Err(NotRows::Refused { why, place }),
+        Ok(layout) => {
             let found = columns::find(table, layout);
             match found {
-                Found::Unfit => CsvAnswer::Unfit,
-                Found::Fields { from, width } => {
+                None => Err(NotRows::Unfit),
+                Some(Columns { from, width }) => {
                     export_row::export_row(table, layout, from, width, message, out)
                 }
             }
@@ -31,17 +34,17 @@ pub fn export(table: &[u8], message: &[u8], out: &mut [u8]) -> CsvAnswer
 }
 
 // Writes the message of a row by a table, in its shortest form: how many bytes, which stand in front in the output, or why not.
-pub fn import(table: &[u8], row: &[u8], out: &mut [u8]) -> CsvAnswer
+pub fn import(table: &[u8], row: &[u8], out: &mut [u8]) -> Result<usize, NotRows>
     ensures { GivesImport table.now row.now out.old result out.new }
 {
     let checked = table::check(table);
     match checked {
-        Checked::Bad { why, place } => CsvAnswer::Refused { why, place },
-        Checked::Good { layout } => {
+        Err(RefusedAt { why, place }) => Err(NotRows::Refused { why, place }),
+        Ok(layout) => {
             let found = columns::find(table, layout);
             match found {
-                Found::Unfit => CsvAnswer::Unfit,
-                Found::Fields { from, width } => {
+                None => Err(NotRows::Unfit),
+                Some(Columns { from, width }) => {
                     import_row::import_row(table, layout, from, width, row, out)
                 }
             }

@@ -3,30 +3,27 @@
 
 use wire::Refusal;
 
-// What the question for one item by its path answers: its entry's words and its place, that the path leads to no such item,
-// the place of the first option on the path that is absent, or the reading's own refusal.
+// An item that was found by its path: its entry's words, and its place.
 #[derive(Clone, Copy)]
-pub enum FindAnswer {
-    Found {
-        first: u64,
-        second: u64,
-        place: usize,
-    },
-    NoItem,
-    Absent {
-        place: usize,
-    },
-    Refused {
-        why: Refusal,
-        place: usize,
-    },
+pub struct Found {
+    pub first: u64,
+    pub second: u64,
+    pub place: usize,
 }
 
-// What the comparison of two messages answers: how many items differ, that the lent list is too short for them, or a refusal:
-// the table's or the first message's, or the second message's.
+// Why an item isn't found: the path leads to no such item, the first option on the path that is absent stands at a place, or the
+// reading's own refusal.
 #[derive(Clone, Copy)]
-pub enum CompareAnswer {
-    Done { count: usize },
+pub enum NotFound {
+    NoItem,
+    Absent { place: usize },
+    Refused { why: Refusal, place: usize },
+}
+
+// Why two messages aren't compared: the lent list is too short for their pairs, or a refusal: the table's or the first message's, or
+// the second message's.
+#[derive(Clone, Copy)]
+pub enum NotCompared {
     Short,
     Refused { why: Refusal, place: usize },
     OtherRefused { why: Refusal, place: usize },
@@ -56,34 +53,16 @@ pub enum Fault {
     Missing,
 }
 
-// How the writing of a batch ends: the bytes written, or why it is refused.
+// A part of a batch: where it starts, and its length.
 #[derive(Clone, Copy)]
-pub enum BatchWritten {
-    Done { place: usize },
-    Refused { why: Fault },
+pub struct Part {
+    pub from: usize,
+    pub len: usize,
 }
 
-// What the whole check of a batch answers.
+// Why a reading with a lent list of open items stops: as a reading does, or because the list is too short.
 #[derive(Clone, Copy)]
-pub enum BatchChecked {
-    Good,
-    Bad { why: Fault },
-}
-
-// Where the last message of a store and product stands, or why there is none.
-#[derive(Clone, Copy)]
-pub enum BatchFound {
-    Part { from: usize, len: usize },
-    Refused { why: Fault },
-}
-
-// What a reading with a lent list of open items answers: what a reading does, or that the list is too short.
-#[derive(Clone, Copy)]
-pub enum OpenAnswer {
-    Done {
-        place: usize,
-        count: usize,
-    },
+pub enum NotOpened {
     Refused {
         why: Refusal,
         place: usize,
@@ -92,11 +71,10 @@ pub enum OpenAnswer {
     ShortList,
 }
 
-// How an export or an import ends: the bytes written; a refusal of the wire and its place; a table that has no rows; or the place
-// where an input stops being a row.
+// Why there is no export or import: a refusal of the wire and its place; a table that has no rows; or the place where an input
+// stops being a row.
 #[derive(Clone, Copy)]
-pub enum CsvAnswer {
-    Done { place: usize },
+pub enum NotRows {
     Refused { why: Refusal, place: usize },
     Unfit,
     NoRow { place: usize },

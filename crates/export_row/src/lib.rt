@@ -7,9 +7,11 @@ ghost use Rattle.columns.specs.Columns.{field_shapes, Rowed};
 ghost use Rattle.put_row.specs.Rows.{fields_from};
 ghost use Rattle.export_row.specs.Outputs.{Gives, told_output};
 
-use desk::CsvAnswer;
-use put_row::Row;
-use wire::{Layout, Refusal};
+use CsvAnswer;
+use Row;
+use desk::NotRows;
+use put_row::Laid;
+use wire::{Layout, Refusal, RefusedAt};
 
 // The room for the row of few fields that are short, which is soon cleared, and of others.
 const SHORT: usize = 256;
@@ -27,26 +29,26 @@ fn export_kept(
     message: &[u8],
     kept: &mut [u8],
     out: &mut [u8],
-) -> CsvAnswer
+) -> Result<usize, NotRows>
     requires { Rowed table.now l from width }
     ensures { Gives (told_output (length out.old) (fields_from message.now true (field_shapes table.now l from width) 0)) out.old result out.new }
 {
     let got = put_row::put_row(table, l, from, width, message, kept);
     match got {
-        Row::Refused { why, place } => CsvAnswer::Refused { why, place },
-        Row::Laid { place: _, len } => {
+        Err(RefusedAt { why, place }) => Err(NotRows::Refused { why, place }),
+        Ok(Laid { place: _, len }) => {
             if out.len() < len {
-                return CsvAnswer::Refused {
+                return Err(NotRows::Refused {
                     why: Refusal::Full,
                     place: 0,
-                };
+                });
             }
             if len <= kept.len() {
                 output::put_bytes(&kept[..len], out, 0);
-                return CsvAnswer::Done { place: len };
+                return Ok(len);
             }
             put_row::put_row(table, l, from, width, message, out);
-            CsvAnswer::Done { place: len }
+            Ok(len)
         }
     }
 }
@@ -58,7 +60,7 @@ fn export_few(
     width: usize,
     message: &[u8],
     out: &mut [u8],
-) -> CsvAnswer
+) -> Result<usize, NotRows>
     requires { Rowed table.now l from width }
     ensures { Gives (told_output (length out.old) (fields_from message.now true (field_shapes table.now l from width) 0)) out.old result out.new }
 {
@@ -73,7 +75,7 @@ fn export_many(
     width: usize,
     message: &[u8],
     out: &mut [u8],
-) -> CsvAnswer
+) -> Result<usize, NotRows>
     requires { Rowed table.now l from width }
     ensures { Gives (told_output (length out.old) (fields_from message.now true (field_shapes table.now l from width) 0)) out.old result out.new }
 {
@@ -89,7 +91,7 @@ pub fn export_row(
     width: usize,
     message: &[u8],
     out: &mut [u8],
-) -> CsvAnswer
+) -> Result<usize, NotRows>
     requires { Rowed table.now l from width }
     ensures { Gives (told_output (length out.old) (fields_from message.now true (field_shapes table.now l from width) 0)) out.old result out.new }
 {

@@ -13,7 +13,7 @@ use Rattle.wire.specs.Reading.{front}
 use Rattle.laws.specs.Tables.{node_kind, node_child, node_shape, GoodTable}
 use Rattle.laws.proofs.Parts.{tail, next}
 use Rattle.read_item.specs.Steps.{spot}
-use Rattle.desk.specs.declared.FindAnswer.{FindAnswer}
+use Rattle.desk.specs.FindAnswer.{FindAnswer}
 use Rattle.desk.specs.Path.{is_field, most_entries, leads}
 use Rattle.along.specs.Seek.{seek}
 use Rattle.find.specs.declared.Passed.{Passed}

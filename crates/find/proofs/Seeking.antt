@@ -11,11 +11,11 @@ use lib.Seq.{drop-drop}
 use Rattle.wire.specs.declared.Refusal.{Refusal}
 use Rattle.wire.specs.declared.Refusal.TheVariants.{Room}
 use Rattle.wire.specs.declared.Own.{Own}
-use Rattle.wire.specs.declared.Item.{Item}
-use Rattle.wire.specs.declared.Item.TheVariants.{Took, Refused as NotTaken}
+use Rattle.wire.specs.Item.{Item}
+use Rattle.wire.specs.Item.{Took, Refused as NotTaken}
 use Rattle.wire.specs.declared.Layout.{Layout}
-use Rattle.wire.specs.declared.ReadAnswer.{ReadAnswer}
-use Rattle.wire.specs.declared.ReadAnswer.TheVariants.{Done, Refused as NotRead}
+use Rattle.wire.specs.ReadAnswer.{ReadAnswer}
+use Rattle.wire.specs.ReadAnswer.{Done, Refused as NotRead}
 use Rattle.wire.specs.Tests.{given}
 use Rattle.wire.specs.Walk.{all, walk, walks}
 use Rattle.wire.specs.Table.{u16_at, kind_of, Node, node_at, record_of, shapes_at}
@@ -37,8 +37,8 @@ use Rattle.read_item.proofs.Entering.{number_small}
 use Rattle.read_item.proofs.Heads.{head-leaf}
 use Rattle.reader.specs.Steps.{answer_behind}
 use Rattle.reader.proofs.Turns.{from, row-steady, said-refused, said-done}
-use Rattle.desk.specs.declared.FindAnswer.{FindAnswer}
-use Rattle.desk.specs.declared.FindAnswer.TheVariants.{Found, Absent, Refused}
+use Rattle.desk.specs.FindAnswer.{FindAnswer}
+use Rattle.desk.specs.FindAnswer.{Found, Absent, Refused}
 use Rattle.desk.specs.Path.{is_field, most_entries, is_there}
 use Rattle.along.specs.Seek.{seek_on, seek_item, seek, seek_at}
 use Rattle.find.specs.declared.Passed.{Passed}

@@ -3,7 +3,7 @@
 -- Assumes nothing.
 use Rattle.std.specs.Prelude.{◌≡◌, Bool, true, false, List, [], ◌∷◌, ℕ, ◌+◌, ◌-◌, ◌*◌, ◌≤◌, ◌<◌, length, drop}
 use Rattle.std.proofs.Math.Option.{Option, none, some}
-use Rattle.wire.specs.declared.Item.{Item}
+use Rattle.wire.specs.Item.{Item}
 use Rattle.wire.specs.declared.Layout.{Layout}
 use Rattle.wire.specs.Shape.{Kind}
 use Rattle.wire.specs.Table.{u16_at, kind_of, Node, node_at, record_of, shape_of}
@@ -11,7 +11,7 @@ use Rattle.wire.specs.Reading.{head, Spot, front, reading, fit}
 use Rattle.laws.specs.Tables.{node_kind, node_count, node_shape}
 use Rattle.table.specs.Parts.{row_step}
 use Rattle.read_item.specs.Steps.{spot}
-use Rattle.desk.specs.declared.FindAnswer.{FindAnswer}
+use Rattle.desk.specs.FindAnswer.{FindAnswer}
 use Rattle.desk.specs.Path.{is_field, is_passed, most_entries}
 use Rattle.along.specs.Seek.{seek_on, seek}
 use Rattle.find.specs.declared.Passed.{Passed}

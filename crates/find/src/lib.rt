@@ -11,8 +11,9 @@ ghost use Rattle.desk.specs.Path.{is_field, is_passed, is_there, most_entries, l
 ghost use Rattle.along.specs.Seek.{seek as seek_of};
 ghost use Rattle.find.specs.Steps.{is_some, Inward, Owns, seek_behind, seek_node, Passes, Arrives};
 
-use desk::FindAnswer;
-use wire::{Checked, Item, Layout, Own, ReadAnswer, Refusal};
+use desk::{Found, NotFound};
+use FindAnswer;
+use wire::{Layout, Own, Reached, Refusal, RefusedAt, Stopped};
 
 // Every message is read as with a store of so many entries.
 const ROOM: usize = 16384;
@@ -26,7 +27,7 @@ enum Passed {
         made: usize,
     },
     Out {
-        answer: FindAnswer,
+        answer: Result<Found, NotFound>,
     },
 }
 
@@ -117,14 +118,14 @@ fn skim_front(
     }
     let got = reader::skim_row(table, l, node, from, which, part, place, ROOM, made);
     match got {
-        ReadAnswer::Refused {
+        Err(Stopped {
             why,
             place: at,
             count: _,
-        } => Passed::Out {
-            answer: FindAnswer::Refused { why, place: at },
+        }) => Passed::Out {
+            answer: Err(NotFound::Refused { why, place: at }),
         },
-        ReadAnswer::Done { place: at, count } => Passed::In {
+        Ok(Reached { place: at, count }) => Passed::In {
             node: table::u16_at(table, from + 2 * which),
             place: at,
             made: count,
@@ -134,20 +135,18 @@ fn skim_front(
 
 // The own bytes of an item that a path goes through. It isn't `read_item::enter`: a second caller would cost the reader that
 // function's inlining.
-fn own_bytes(number: u8, part: &[u8]) -> Item
+fn own_bytes(number: u8, part: &[u8]) -> Result<Own, Refusal>
     requires { is_passed (kind_of number) ≡ true }
     ensures { Owns number part.now result }
 {
     match number {
         15 => leaf::take_flag(part, Refusal::BadOption),
-        _ => Item::Took {
-            own: Own {
+        _ => Ok(Own {
                 shortest: true,
                 first: 0,
                 second: 0,
                 used: 0,
-            },
-        },
+            }),
     }
 }
 
@@ -181,24 +180,24 @@ fn pass(
 {
     if ROOM <= made {
         return Passed::Out {
-            answer: FindAnswer::Refused {
+            answer: Err(NotFound::Refused {
                 why: Refusal::Room,
                 place,
-            },
+            }),
         };
     }
     let number = table::kind_at(table, l, node);
     let got = own_bytes(number, part);
     match got {
-        Item::Refused { why } => Passed::Out {
-            answer: FindAnswer::Refused { why, place },
+        Err(why) => Passed::Out {
+            answer: Err(NotFound::Refused { why, place }),
         },
-        Item::Took { own } => {
+        Ok(own) => {
             let used = own.used;
             let after = place + used;
             if !is_there(number, own.first) {
                 return Passed::Out {
-                    answer: FindAnswer::Absent { place },
+                    answer: Err(NotFound::Absent { place }),
                 };
             }
             let next = made + 1;
@@ -209,7 +208,7 @@ fn pass(
 }
 
 // The item at the path's end. It wants room too.
-fn take(table: &[u8], l: Layout, node: usize, part: &[u8], place: usize, made: usize) -> FindAnswer
+fn take(table: &[u8], l: Layout, node: usize, part: &[u8], place: usize, made: usize) -> Result<Found, NotFound>
     requires good_table { GoodTable table.now l }
     requires node_lt_nodes { node < l.nodes }
     requires node_value { is_field (node_kind (node_at table.now (record_of l node))) ≡ true }
@@ -217,20 +216,20 @@ fn take(table: &[u8], l: Layout, node: usize, part: &[u8], place: usize, made: u
     ensures { result ≡ seek_of (node_shape table.now l node) [] (most_entries - made) (spot part.now place) }
 {
     if ROOM <= made {
-        return FindAnswer::Refused {
+        return Err(NotFound::Refused {
             why: Refusal::Room,
             place,
-        };
+        });
     }
     let number = table::kind_at(table, l, node);
     let got = leaf::take(number, part, place);
     match got {
-        Item::Refused { why } => FindAnswer::Refused { why, place },
-        Item::Took { own } => FindAnswer::Found {
+        Err(why) => Err(NotFound::Refused { why, place }),
+        Ok(own) => Ok(Found {
             first: own.first,
             second: own.second,
             place,
-        },
+        }),
     }
 }
 
@@ -270,7 +269,7 @@ fn go(table: &[u8], l: Layout, path: &[u64], message: &[u8]) -> Passed
     }
 }
 
-fn seek(table: &[u8], l: Layout, path: &[u64], message: &[u8]) -> FindAnswer
+fn seek(table: &[u8], l: Layout, path: &[u64], message: &[u8]) -> Result<Found, NotFound>
     requires good_table { GoodTable table.now l }
     requires path_value { is_some (leads_of (shape_of table.now l) path.now) ≡ true }
     ensures { result ≡ seek_of (shape_of table.now l) path.now most_entries (front message.now) }
@@ -284,17 +283,17 @@ fn seek(table: &[u8], l: Layout, path: &[u64], message: &[u8]) -> FindAnswer
 
 // The item of a message that a path of positions leads to, through structs and options: its entry and its place, as the full
 // read with room for 16,384 entries has put it, or why there is none.
-pub fn find(table: &[u8], path: &[u64], message: &[u8]) -> FindAnswer
+pub fn find(table: &[u8], path: &[u64], message: &[u8]) -> Result<Found, NotFound>
     ensures { result ≡ finds table.now path.now message.now }
 {
     let checked = table::check(table);
     match checked {
-        Checked::Bad { why, place } => FindAnswer::Refused { why, place },
-        Checked::Good { layout } => {
+        Err(RefusedAt { why, place }) => Err(NotFound::Refused { why, place }),
+        Ok(layout) => {
             if leads(table, layout, path) {
                 return seek(table, layout, path, message);
             }
-            FindAnswer::NoItem
+            Err(NotFound::NoItem)
         }
     }
 }

@@ -9,7 +9,7 @@ ghost use Rattle.wire.specs.Numbers as numbers;
 ghost use Rattle.wire.specs.Reading.{read_plain};
 ghost use Rattle.fixint.specs.Sizes.{order_of, sign_of, byte_of, IsSize, number_of};
 
-use wire::{Item, Own, Refusal};
+use wire::{Own, Refusal};
 
 pub fn le2(x: u64) -> [u8; 2]
     ensures { result ≡ in_order le (little_bytes (size w16) x) }
@@ -127,45 +127,43 @@ fn with_sign(x: u64, n: usize, signed: bool) -> u64
 }
 
 // A number of n bytes at the start of the part.
-fn take(part: &[u8], n: usize, signed: bool, big: bool) -> Item
+fn take(part: &[u8], n: usize, signed: bool, big: bool) -> Result<Own, Refusal>
     requires { IsSize n }
     ensures { result ≡ number_of n (sign_of signed) (order_of big) part.now }
 {
     if part.len() < n {
-        return Item::Refused { why: Refusal::End };
+        return Err(Refusal::End);
     }
     let x = word(part, n, big);
     let first = with_sign(x, n, signed);
-    Item::Took {
-        own: Own {
-            first,
-            second: 0,
-            used: n,
-            shortest: true,
-        },
-    }
+    Ok(Own {
+        first,
+        second: 0,
+        used: n,
+        shortest: true,
+    })
 }
 
-pub fn take8(part: &[u8], signed: bool) -> Item
+pub fn take8(part: &[u8], signed: bool) -> Result<Own, Refusal>
     ensures { result ≡ read_plain (byte_of signed) part.now }
 {
     take(part, 1, signed, false)
 }
 
-pub fn take16(part: &[u8], signed: bool, big: bool) -> Item
+pub fn take16(part: &[u8], signed: bool, big: bool) -> Result<Own, Refusal>
     ensures { result ≡ read_plain (fixed (order_of big) (sign_of signed) w16) part.now }
 {
     take(part, 2, signed, big)
 }
 
 // An f32 is the unsigned little-endian number of its bits, and so is an f64 below (specs/Sizes.antt, `Floats`).
-pub fn take32(part: &[u8], signed: bool, big: bool) -> Item
+pub fn take32(part: &[u8], signed: bool, big: bool) -> Result<Own, Refusal>
     ensures { result ≡ read_plain (fixed (order_of big) (sign_of signed) w32) part.now }
 {
     take(part, 4, signed, big)
 }
 
-pub fn take64(part: &[u8], signed: bool, big: bool) -> Item
+pub fn take64(part: &[u8], signed: bool, big: bool) -> Result<Own, Refusal>
     ensures { result ≡ read_plain (fixed (order_of big) (sign_of signed) w64) part.now }
 {
     take(part, 8, signed, big)

@@ -9,8 +9,10 @@ ghost use Rattle.export_row.specs.Outputs.{Gives};
 ghost use Rattle.take_row.specs.Messages.{taken_by};
 ghost use Rattle.import_row.specs.Outputs.{taken_output};
 
-use desk::CsvAnswer;
-use take_row::Message;
+use take_row::{Laid, NoRow};
+use desk::NotRows;
+use CsvAnswer;
+use Message;
 use wire::{Layout, Refusal};
 
 // The room for the message of few fields that are short, which is soon cleared, and of others.
@@ -29,26 +31,26 @@ fn import_kept(
     row: &[u8],
     kept: &mut [u8],
     out: &mut [u8],
-) -> CsvAnswer
+) -> Result<usize, NotRows>
     requires { Rowed table.now l from width }
     ensures { Gives (taken_output (length out.old) (taken_by (columns (field_shapes table.now l from width)) row.now)) out.old result out.new }
 {
     let got = take_row::take_row(table, l, from, width, row, kept);
     match got {
-        Message::Stops { at } => CsvAnswer::NoRow { place: at },
-        Message::Laid { len } => {
+        Err(NoRow { at }) => Err(NotRows::NoRow { place: at }),
+        Ok(Laid { len }) => {
             if out.len() < len {
-                return CsvAnswer::Refused {
+                return Err(NotRows::Refused {
                     why: Refusal::Full,
                     place: 0,
-                };
+                });
             }
             if len <= kept.len() {
                 output::put_bytes(&kept[..len], out, 0);
-                return CsvAnswer::Done { place: len };
+                return Ok(len);
             }
             take_row::take_row(table, l, from, width, row, out);
-            CsvAnswer::Done { place: len }
+            Ok(len)
         }
     }
 }
@@ -60,7 +62,7 @@ fn import_few(
     width: usize,
     row: &[u8],
     out: &mut [u8],
-) -> CsvAnswer
+) -> Result<usize, NotRows>
     requires { Rowed table.now l from width }
     ensures { Gives (taken_output (length out.old) (taken_by (columns (field_shapes table.now l from width)) row.now)) out.old result out.new }
 {
@@ -75,7 +77,7 @@ fn import_many(
     width: usize,
     row: &[u8],
     out: &mut [u8],
-) -> CsvAnswer
+) -> Result<usize, NotRows>
     requires { Rowed table.now l from width }
     ensures { Gives (taken_output (length out.old) (taken_by (columns (field_shapes table.now l from width)) row.now)) out.old result out.new }
 {
@@ -91,7 +93,7 @@ pub fn import_row(
     width: usize,
     row: &[u8],
     out: &mut [u8],
-) -> CsvAnswer
+) -> Result<usize, NotRows>
     requires { Rowed table.now l from width }
     ensures { Gives (taken_output (length out.old) (taken_by (columns (field_shapes table.now l from width)) row.now)) out.old result out.new }
 {

@@ -15,7 +15,7 @@ ghost use Rattle.keeping.specs.Kept.{Good, survey_of, Keeps, kept_for, batch_kep
 ghost use Rattle.keeping.specs.Lasts.{MarksIf, Lasts, InWindow};
 
 use desk::Row;
-use messages::{Fields, NextMessage};
+use messages::{Fields, Message};
 use wire::Layout;
 
 // A trailer's bytes.
@@ -104,7 +104,7 @@ pub fn survey(
     let mut len = 0;
     while at < front.len() {
         let next = messages::next(table, l, f, &front[at..]);
-        let NextMessage::Message { key: _, len: size } = next else {
+        let Ok(Message { key: _, len: size }) = next else {
             return Surveyed { count, len };
         };
         let behind = at + size;
@@ -166,7 +166,7 @@ fn keep(
     let mut many = 0;
     while at < front.len() {
         let next = messages::next(table, l, f, &front[at..]);
-        let NextMessage::Message { key, len: size } = next else {
+        let Ok(Message { key, len: size }) = next else {
             return;
         };
         let behind = at + size;

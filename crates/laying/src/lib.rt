@@ -10,23 +10,23 @@ ghost use Rattle.messages.specs.Fields.{keys_of, KeyedBy};
 ghost use Rattle.laying.specs.Counts.{Counts, Whole, rows_for, ending, Laid, batch_for};
 
 use desk::Row;
-use messages::{Fields, NextMessage};
-use wire::{Layout, Refusal};
+use messages::{Fields, Message};
+use wire::{Layout, Refusal, RefusedAt};
+
+// How many rows were laid, and where the last of them stands.
+#[derive(Clone, Copy)]
+pub struct Tally {
+    pub count: usize,
+    pub last: usize,
+}
 
 // The largest offset that a row has bytes for, and the most rows whose distance has.
 const FARTHEST: usize = 4294967295;
 
 const MOST: usize = 268435455;
 
-// How many messages some bytes are, and where the last of them begins; or the reader's own refusal, at its place in all the bytes.
-#[derive(Clone, Copy)]
-pub enum Counted {
-    All { count: usize, last: usize },
-    Stopped { why: Refusal, place: usize },
-}
-
 // Counts the messages of some bytes.
-pub fn count(table: &[u8], l: Layout, f: Fields, bytes: &[u8]) -> Counted
+pub fn count(table: &[u8], l: Layout, f: Fields, bytes: &[u8]) -> Result<Tally, RefusedAt>
     requires { KeyedBy table.now l f }
     ensures { Counts (split (keys_of table.now l f) bytes.now) result }
 {
@@ -36,18 +36,18 @@ pub fn count(table: &[u8], l: Layout, f: Fields, bytes: &[u8]) -> Counted
     while at < bytes.len() {
         let next = messages::next(table, l, f, &bytes[at..]);
         match next {
-            NextMessage::Stops { why, place } => {
+            Err(RefusedAt { why, place }) => {
                 let there = at + place;
-                return Counted::Stopped { why, place: there };
+                return Err(RefusedAt { why, place: there });
             }
-            NextMessage::Message { key: _, len } => {
+            Ok(Message { key: _, len }) => {
                 last = at;
                 at = at + len;
                 many = many + 1;
             }
         }
     }
-    Counted::All { count: many, last }
+    Ok(Tally { count: many, last })
 }
 
 // Whether an offset, a count of rows and their distance fit their fields.
@@ -70,7 +70,7 @@ pub fn put_rows(table: &[u8], l: Layout, f: Fields, bytes: &[u8], rows: &mut [u8
     let mut many = 0;
     while at < bytes.len() {
         let next = messages::next(table, l, f, &bytes[at..]);
-        let NextMessage::Message { key, len } = next else {
+        let Ok(Message { key, len }) = next else {
             return;
         };
         let offset = at as u64;

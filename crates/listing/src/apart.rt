@@ -3,7 +3,7 @@ use crate::path::{DEEPEST, node_at};
 use crate::tree::{say_bad, say_node};
 use say::say;
 use std::io;
-use wire::{Checked, Refusal, Side};
+use wire::{Refusal, RefusedAt, Side};
 
 // The node at the path's end, behind a text, and behind the names of the path's positions if asked for.
 fn say_end(
@@ -15,12 +15,12 @@ fn say_end(
     text: &[u8],
 ) -> io::Result<()> {
     match table::check(table) {
-        Checked::Good { layout } => {
+        Ok(layout) => {
             let node = node_at(rt, table, layout, path, depth, aloud)?;
             say(rt, text)?;
             say_node(rt, table, layout, node)
         }
-        Checked::Bad { why, place } => say_bad(rt, why, place),
+        Err(RefusedAt { why, place }) => say_bad(rt, why, place),
     }
 }
 

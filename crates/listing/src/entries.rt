@@ -11,7 +11,7 @@ use crate::tree::say_bad;
 use crate::way::{WORDS, keep};
 use say::{say, say_bytes, say_why, say_with};
 use std::io;
-use wire::{Checked, Layout, ReadAnswer, Refusal};
+use wire::{Layout, Reached, Refusal, RefusedAt, Stopped};
 
 // What follows an item: rounds over the children from one position up to another.
 #[derive(Clone, Copy)]
@@ -209,36 +209,40 @@ fn show_entries(
     Ok(())
 }
 
-fn show_end(rt: &impl Print, answer: ReadAnswer, rest: &[u8]) -> io::Result<()> {
+fn show_end(rt: &impl Print, answer: Result<Reached, Stopped>, rest: &[u8]) -> io::Result<()> {
     match answer {
-        ReadAnswer::Done { place, count: _ } => {
+        Ok(Reached { place, count: _ }) => {
             say_with(rt, b"read # byte$; rest:", place as u64)?;
             say_bytes(rt, rest)?;
             say(rt, b"\n")
         }
-        ReadAnswer::Refused {
-            why,
-            place,
-            count: _,
-        } => {
+        Err(
+            Stopped {
+                why,
+                place,
+                count: _,
+            },
+        ) => {
             say(rt, b"refused: ")?;
             say_why(rt, why, b", at byte #\n", place)
         }
     }
 }
 
-fn made_by(answer: ReadAnswer, bytes: bool) -> Made {
+fn made_by(answer: Result<Reached, Stopped>, bytes: bool) -> Made {
     match answer {
-        ReadAnswer::Done { place, count } => Made {
+        Ok(Reached { place, count }) => Made {
             count,
             bytes,
             end: place,
         },
-        ReadAnswer::Refused {
-            why: _,
-            place,
-            count,
-        } => Made {
+        Err(
+            Stopped {
+                why: _,
+                place,
+                count,
+            },
+        ) => Made {
             count,
             bytes,
             end: place,
@@ -248,7 +252,7 @@ fn made_by(answer: ReadAnswer, bytes: bool) -> Made {
 
 // Where the own bytes of the item in front of the entry `at` end: where that one's begin, or else where the reading ended.
 #[tactic(auto, unfolding(wire::specs::Answers::room_of))]
-fn end_before(store: &[u64], answer: ReadAnswer, at: usize) -> usize {
+fn end_before(store: &[u64], answer: Result<Reached, Stopped>, at: usize) -> usize {
     let made = made_by(answer, true);
     if at < made.count {
         if at < entry::room(store.len()) {
@@ -266,13 +270,19 @@ fn is_longer(why: Refusal) -> bool {
 }
 
 // What a strict reading left to show. A plain one has read the item that isn't in its shortest form, so that one is shown too.
-fn made_strictly(store: &[u64], strict: ReadAnswer, plain: ReadAnswer) -> Made {
+fn made_strictly(
+    store: &[u64],
+    strict: Result<Reached, Stopped>,
+    plain: Result<Reached, Stopped>,
+) -> Made {
     let made = made_by(strict, true);
-    let ReadAnswer::Refused {
-        why,
-        place: _,
-        count,
-    } = strict
+    let Err(
+        Stopped {
+            why,
+            place: _,
+            count,
+        },
+    ) = strict
     else {
         return made;
     };
@@ -296,12 +306,12 @@ fn show_made(
     message: &[u8],
     store: &[u64],
     made: Made,
-    answer: ReadAnswer,
+    answer: Result<Reached, Stopped>,
     rest: &[u8],
 ) -> io::Result<()> {
     match table::check(table) {
-        Checked::Bad { why, place } => say_bad(rt, why, place),
-        Checked::Good { layout } => {
+        Err(RefusedAt { why, place }) => say_bad(rt, why, place),
+        Ok(layout) => {
             show_entries(
                 rt,
                 table,
@@ -324,7 +334,7 @@ pub fn show(
     table: &[u8],
     message: &[u8],
     store: &[u64],
-    answer: ReadAnswer,
+    answer: Result<Reached, Stopped>,
     rest: &[u8],
     bytes: bool,
 ) -> io::Result<()> {
@@ -346,8 +356,8 @@ pub fn show_strictly(
     table: &[u8],
     message: &[u8],
     store: &[u64],
-    strict: ReadAnswer,
-    plain: ReadAnswer,
+    strict: Result<Reached, Stopped>,
+    plain: Result<Reached, Stopped>,
     rest: &[u8],
 ) -> io::Result<()> {
     let made = made_strictly(store, strict, plain);
@@ -365,8 +375,8 @@ pub fn show_changes(
     other: &[u8],
 ) -> io::Result<()> {
     match table::check(table) {
-        Checked::Bad { why, place } => say_bad(rt, why, place),
-        Checked::Good { layout } => {
+        Err(RefusedAt { why, place }) => say_bad(rt, why, place),
+        Ok(layout) => {
             let made = Made {
                 count: entry::room(words.len()),
                 bytes: false,

@@ -5,10 +5,11 @@ use crate::names::say_kind;
 use crate::path::{DEEPEST, node_at};
 use crate::tree::say_bad;
 use crate::value::say_value;
-use desk::FindAnswer;
+use FindAnswer;
+use desk::{Found, NotFound};
 use say::{say, say_why, say_with};
 use std::io;
-use wire::{Checked, Layout};
+use wire::{Layout, RefusedAt};
 
 fn show_by(
     rt: &impl Print,
@@ -17,16 +18,18 @@ fn show_by(
     path: &[u64; DEEPEST],
     depth: usize,
     message: &[u8],
-    answer: FindAnswer,
+    answer: Result<Found, NotFound>,
 ) -> io::Result<()>
     requires { GoodTable table.now l }
 {
     match answer {
-        FindAnswer::Found {
-            first,
-            second,
-            place,
-        } => {
+        Ok(
+            Found {
+                first,
+                second,
+                place,
+            },
+        ) => {
             say(rt, b"root")?;
             let node = node_at(rt, table, l, path, depth, true)?;
             let number = table::kind_at(table, l, node);
@@ -35,13 +38,13 @@ fn show_by(
             say_value(rt, number, 0, first, second, message)?;
             say_with(rt, b", at byte #\n", place as u64)
         }
-        FindAnswer::NoItem => say(rt, b"refused: 13, the path leads to no single value\n"),
-        FindAnswer::Absent { place } => say_with(
+        Err(NotFound::NoItem) => say(rt, b"refused: 13, the path leads to no single value\n"),
+        Err(NotFound::Absent { place }) => say_with(
             rt,
             b"refused: 14, an option on the path is absent, at byte #\n",
             place as u64,
         ),
-        FindAnswer::Refused { why, place } => {
+        Err(NotFound::Refused { why, place }) => {
             say(rt, b"refused: ")?;
             say_why(rt, why, b", at byte #\n", place)
         }
@@ -55,10 +58,10 @@ pub fn show(
     path: &[u64; DEEPEST],
     depth: usize,
     message: &[u8],
-    answer: FindAnswer,
+    answer: Result<Found, NotFound>,
 ) -> io::Result<()> {
     match table::check(table) {
-        Checked::Bad { why, place } => say_bad(rt, why, place),
-        Checked::Good { layout } => show_by(rt, table, layout, path, depth, message, answer),
+        Err(RefusedAt { why, place }) => say_bad(rt, why, place),
+        Ok(layout) => show_by(rt, table, layout, path, depth, message, answer),
     }
 }

@@ -8,7 +8,7 @@ use crate::names::{say_child, say_kind};
 use crate::parts::child;
 use say::{indent, say, say_why, say_with};
 use std::io;
-use wire::{Checked, Layout, Refusal};
+use wire::{Layout, Refusal, RefusedAt};
 
 // A table that is not good: why, and where.
 pub fn say_bad(rt: &impl Print, why: Refusal, place: usize) -> io::Result<()> {
@@ -102,8 +102,8 @@ fn show_children(
 // Whether a table is good, and its tree.
 pub fn show(rt: &impl Print, table: &[u8]) -> io::Result<()> {
     match table::check(table) {
-        Checked::Bad { why, place } => say_bad(rt, why, place),
-        Checked::Good { layout } => {
+        Err(RefusedAt { why, place }) => say_bad(rt, why, place),
+        Ok(layout) => {
             say_with(rt, b"good table of # node$\nroot: ", layout.nodes as u64)?;
             let root = layout.root;
             let mut seen = [0u8; 4096];

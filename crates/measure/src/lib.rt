@@ -1,7 +1,7 @@
 // Loops over the leaves, so that a driver can time them without a call for each item. No part of the library.
 #![tactic(auto)]
 
-use wire::Item;
+use Item;
 
 // The sum of a message's varints, one after the other, up to the first that is refused.
 fn sum(message: &[u8], most: usize, last: u64) -> u64 {
@@ -9,7 +9,7 @@ fn sum(message: &[u8], most: usize, last: u64) -> u64 {
     let mut rest = message;
     while 0 < rest.len() {
         let got = varint::take(rest, most, last);
-        let Item::Took { own } = got else {
+        let Ok(own) = got else {
             return sum;
         };
         sum = std::num::wrapping_add_u64(sum, own.first);

@@ -12,7 +12,7 @@ use lib.Dec.{eqb}
 use borrow.Author.Tests.{eq-eqb, ne_eqb}
 use Rattle.wire.specs.declared.Layout.{Layout}
 use Rattle.wire.specs.declared.Refusal.{Refusal}
-use Rattle.wire.specs.declared.ReadAnswer.TheVariants.{Done, Refused as NotRead}
+use Rattle.wire.specs.ReadAnswer.{Done, Refused as NotRead}
 use Rattle.wire.specs.Tests.{pick, both, decided}
 use Rattle.wire.specs.Shape.{struct, same_kind, node, Shapes, count}
 use Rattle.wire.specs.Walk.{following, times, along, walk, walks}
@@ -31,9 +31,9 @@ use Rattle.desk.specs.Rows.{same_key}
 use Rattle.desk.specs.Messages.{Keyed, Message as Sent, fields_of, word_at, key_of, skim, next, next_by, next_of}
 use Rattle.batches.proofs.Keys.{next-key}
 use Rattle.messages.specs.declared.Fields.{Fields}
-use Rattle.messages.specs.declared.Word.{Word}
-use Rattle.messages.specs.declared.Word.TheVariants.{Took, Refused}
-use Rattle.messages.specs.declared.NextMessage.TheVariants.{Message, Stops}
+use Rattle.messages.specs.Word.{Word}
+use Rattle.messages.specs.Word.{Took, Refused}
+use Rattle.messages.specs.NextMessage.{Message, Stops}
 use Rattle.messages.specs.Fields.{field_count, first_place, second_place, keys_of, key_by, HasKey, KeyedBy}
 use Rattle.messages.specs.Steps.{Goes, Words, took, not_taken, next_answer}
 use Rattle.messages.proofs.Steps.{goes-as, goes_then, first-refused, then-refused, goes-read, row-split, skim-goes, skim-refused}

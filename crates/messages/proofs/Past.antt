@@ -14,9 +14,9 @@ use Rattle.wire.specs.declared.Layout.{Layout}
 use Rattle.wire.specs.declared.Own.{Own}
 use Rattle.wire.specs.declared.Refusal.{Refusal}
 use Rattle.wire.specs.declared.Refusal.TheVariants.{BadVarint}
-use Rattle.wire.specs.declared.ReadAnswer.TheVariants.{Done, Refused}
-use Rattle.wire.specs.declared.Item.{Item}
-use Rattle.wire.specs.declared.Item.TheVariants.{Took as Read, Refused as NotRead}
+use Rattle.wire.specs.ReadAnswer.{Done, Refused}
+use Rattle.wire.specs.Item.{Item}
+use Rattle.wire.specs.Item.{Took as Read, Refused as NotRead}
 use Rattle.wire.specs.Tests.{pick}
 use Rattle.wire.specs.Shape.{w16, w32, w64, signed, unsigned, i8, u8, int}
 use Rattle.wire.specs.Table.{kinds, kind_of, u16_at, node_at, record_of, shapes_at}
@@ -37,9 +37,9 @@ use Rattle.desk.specs.Messages.{Keyed, next_of}
 use Rattle.messages.specs.declared.Fields.{Fields}
 use Rattle.messages.specs.declared.Taken.{Taken}
 use Rattle.messages.specs.declared.Both.{Both}
-use Rattle.messages.specs.declared.Word.TheVariants.{Took}
-use Rattle.messages.specs.declared.NextMessage.{NextMessage}
-use Rattle.messages.specs.declared.NextMessage.TheVariants.{Message, Stops}
+use Rattle.messages.specs.Word.{Took}
+use Rattle.messages.specs.NextMessage.{NextMessage}
+use Rattle.messages.specs.NextMessage.{Message, Stops}
 use Rattle.messages.specs.Fields.{field_count, keys_of, key_width, key_by, HasKey, KeyedBy}
 use Rattle.messages.specs.Steps.{Goes, Words, next_answer}
 use Rattle.messages.specs.Past.{last_of, Uses, IsVarint, MostOf, is, other, PastVarint, passed, nowhere, PastRow, PastInts, PastKey, ReadsBoth, PastKeys}

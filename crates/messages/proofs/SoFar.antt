@@ -12,8 +12,8 @@ use Rattle.desk.specs.declared.Key.{Key}
 use Rattle.desk.specs.Messages.{Keyed, is_keyed, Message, Cut, next, stops, next_of, whole, broken, onto, split_on, split, joined}
 use Rattle.batches.proofs.Ends.{next-joins, next-length}
 use Rattle.batches.proofs.Onward.{next-some, split-on, split-none, ontos, ontos-one, ontos-whole, ontos-broken, joined-one}
-use Rattle.messages.specs.declared.NextMessage.{NextMessage}
-use Rattle.messages.specs.declared.NextMessage.TheVariants.{Message as Is, Stops}
+use Rattle.messages.specs.NextMessage.{NextMessage}
+use Rattle.messages.specs.NextMessage.{Message as Is, Stops}
 use Rattle.messages.specs.Steps.{next_answer}
 
 -- ---- what the code is told

@@ -9,8 +9,8 @@ use native.Mathlib.Omega.{arith}
 use lib.ListN.{length, length-append, length-drop}
 use Rattle.wire.specs.declared.Layout.{Layout}
 use Rattle.wire.specs.declared.Refusal.{Refusal}
-use Rattle.wire.specs.declared.ReadAnswer.TheVariants.{Done, Refused}
-use Rattle.wire.specs.declared.Item.{Item}
+use Rattle.wire.specs.ReadAnswer.{Done, Refused}
+use Rattle.wire.specs.Item.{Item}
 use Rattle.wire.specs.Shape.{w32, w64}
 use Rattle.wire.specs.Walk.{all, walk, walks}
 use Rattle.wire.specs.Table.{u16_at, shapes_at}

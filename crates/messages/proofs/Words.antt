@@ -11,9 +11,9 @@ use Rattle.wire.specs.declared.Layout.{Layout}
 use Rattle.wire.specs.declared.Own.{Own}
 use Rattle.wire.specs.declared.Refusal.{Refusal}
 use Rattle.wire.specs.declared.Refusal.TheVariants.{Room}
-use Rattle.wire.specs.declared.Item.{Item}
-use Rattle.wire.specs.declared.Item.TheVariants.{Took as Taken, Refused as NotTaken}
-use Rattle.wire.specs.declared.ReadAnswer.TheVariants.{Done}
+use Rattle.wire.specs.Item.{Item}
+use Rattle.wire.specs.Item.{Took as Taken, Refused as NotTaken}
+use Rattle.wire.specs.ReadAnswer.{Done}
 use Rattle.wire.specs.Shape.{unsigned, Plain, int, Kind, plain}
 use Rattle.wire.specs.Walk.{Step, following, all, times, along, walk, walks}
 use Rattle.wire.specs.Table.{u16_at, node_at, record_of, shapes_at}
@@ -32,7 +32,7 @@ use Rattle.read_item.specs.Steps.{spot}
 use Rattle.reader.specs.Steps.{answer_behind}
 use Rattle.desk.specs.Path.{most_entries}
 use Rattle.desk.specs.Messages.{first_word, onward, word_at}
-use Rattle.messages.specs.declared.Word.TheVariants.{Took, Refused}
+use Rattle.messages.specs.Word.{Took, Refused}
 use Rattle.messages.specs.Fields.{key_width, IsKey}
 use Rattle.messages.specs.Steps.{Goes, Words, took, not_taken}
 use Rattle.messages.specs.Past.{Uses}

@@ -3,8 +3,8 @@
 -- Assumes nothing.
 use Rattle.std.specs.Prelude.{◌≡◌, Bool, List, ℕ, ◌+◌, ◌-◌, ◌*◌, ◌≤◌, ◌<◌, length, take, drop, eqb}
 use Rattle.wire.specs.declared.Own.{Own}
-use Rattle.wire.specs.declared.Item.{Item}
-use Rattle.wire.specs.declared.Item.TheVariants.{Took as Read}
+use Rattle.wire.specs.Item.{Item}
+use Rattle.wire.specs.Item.{Took as Read}
 use Rattle.wire.specs.declared.Layout.{Layout}
 use Rattle.wire.specs.Tests.{pick}
 use Rattle.wire.specs.Shape.{Plain, plain}
@@ -17,7 +17,7 @@ use Rattle.desk.specs.Path.{most_entries}
 use Rattle.messages.specs.declared.Fields.{Fields}
 use Rattle.messages.specs.declared.Taken.{Taken}
 use Rattle.messages.specs.declared.Both.{Both}
-use Rattle.messages.specs.declared.Word.TheVariants.{Took}
+use Rattle.messages.specs.Word.{Took}
 use Rattle.messages.specs.Fields.{key_width}
 use Rattle.messages.specs.Steps.{Goes, Words}
 

@@ -10,10 +10,10 @@ use Rattle.laws.specs.Tables.{node_shape}
 use Rattle.table.specs.Parts.{row_step}
 use Rattle.desk.specs.Path.{most_entries}
 use Rattle.desk.specs.Messages.{word_at, Cut, next, stops}
-use Rattle.messages.specs.declared.Word.{Word}
-use Rattle.messages.specs.declared.Word.TheVariants.{Took, Refused}
-use Rattle.messages.specs.declared.NextMessage.{NextMessage}
-use Rattle.messages.specs.declared.NextMessage.TheVariants.{Message, Stops}
+use Rattle.messages.specs.Word.{Word}
+use Rattle.messages.specs.Word.{Took, Refused}
+use Rattle.messages.specs.NextMessage.{NextMessage}
+use Rattle.messages.specs.NextMessage.{Message, Stops}
 
 -- behind m entries, a step from x took n bytes, and so many entries are made then
 pub record Goes (f : Spot → Run) (m : ℕ) (x : Spot) (n count : ℕ) : Type 0 where

@@ -17,8 +17,23 @@ ghost use Rattle.messages.specs.Fields.{keys_of, key_width, IsKey, KeyedBy, Orde
 ghost use Rattle.messages.specs.Steps.{Words, next_answer};
 ghost use Rattle.messages.specs.Past.{last_of, MostOf, PastVarint, PastInts, PastKey, PastKeys};
 
+use wire::{Layout, Own, Reached, Refusal, RefusedAt, Stopped};
 use desk::Key;
-use wire::{Item, Layout, ReadAnswer, Refusal};
+
+// A word that was read, the place behind it, and the entries made.
+#[derive(Clone, Copy)]
+pub struct Took {
+    pub word: u64,
+    pub place: usize,
+    pub count: usize,
+}
+
+// A message: its key and its length.
+#[derive(Clone, Copy)]
+pub struct Message {
+    pub key: Key,
+    pub len: usize,
+}
 
 // Each message is read as with a store of so many entries, of which the root's own is the first.
 const ROOM: usize = 16384;
@@ -32,27 +47,6 @@ pub struct Fields {
     pub between: usize,
     pub behind: usize,
     pub ahead: bool,
-}
-
-// The key fields that a table has at two places, or that they are unfit for it.
-#[derive(Clone, Copy)]
-pub enum Found {
-    At { fields: Fields },
-    Unfit,
-}
-
-// A key field's word, the place behind it and the entries made, or the reader's own refusal.
-#[derive(Clone, Copy)]
-pub enum Word {
-    Took {
-        word: u64,
-        place: usize,
-        count: usize,
-    },
-    Refused {
-        why: Refusal,
-        place: usize,
-    },
 }
 
 // A key field's word and the place behind it, which lies beyond the bytes if none is taken.
@@ -70,13 +64,6 @@ pub struct Both {
     pub behind: usize,
 }
 
-// The next message: its key and how many bytes it has, or the reader's own refusal.
-#[derive(Clone, Copy)]
-pub enum NextMessage {
-    Message { key: Key, len: usize },
-    Stops { why: Refusal, place: usize },
-}
-
 // ---- one message
 
 // A row of items skimmed. Most have none in front of a key field, and need no call.
@@ -88,20 +75,20 @@ fn skim(
     part: &[u8],
     place: usize,
     made: usize,
-) -> ReadAnswer
+) -> Result<Reached, Stopped>
     requires good_table { GoodTable table.now l }
     requires falls { Falls table.now from width l.nodes }
     requires part_bound { place + length part.now < 2 ^ 64 }
     ensures { result ≡ answer_behind made (fit (most_entries - made) (row_step (reading head) table.now l from width (spot part.now place))) }
 {
     if width == 0 {
-        return ReadAnswer::Done { place, count: made };
+        return Ok(Reached { place, count: made });
     }
     reader::skim_row(table, l, l.nodes, from, width, part, place, ROOM, made)
 }
 
 // The own bytes of a key field: a store's, which is narrow, or a product's.
-fn take_word(narrow: bool, part: &[u8]) -> Item
+fn take_word(narrow: bool, part: &[u8]) -> Result<Own, Refusal>
     ensures { result ≡ varint (key_width narrow) part.now }
 {
     if narrow {
@@ -120,7 +107,7 @@ fn key_word(
     part: &[u8],
     place: usize,
     made: usize,
-) -> Word
+) -> Result<Took, RefusedAt>
     requires good_table { GoodTable table.now l }
     requires falls { Falls table.now from (before + 1) l.nodes }
     requires key { IsKey table.now l (from + 2 * before) narrow }
@@ -129,30 +116,30 @@ fn key_word(
 {
     let got = skim(table, l, from, before, part, place, made);
     match got {
-        ReadAnswer::Refused {
+        Err(Stopped {
             why,
             place: at,
             count: _,
-        } => Word::Refused { why, place: at },
-        ReadAnswer::Done { place: at, count } => {
+        }) => Err(RefusedAt { why, place: at }),
+        Ok(Reached { place: at, count }) => {
             if ROOM <= count {
-                return Word::Refused {
+                return Err(RefusedAt {
                     why: Refusal::Room,
                     place: at,
-                };
+                });
             }
             let used = at - place;
             let item = take_word(narrow, &part[used..]);
             match item {
-                Item::Refused { why } => Word::Refused { why, place: at },
-                Item::Took { own } => {
+                Err(why) => Err(RefusedAt { why, place: at }),
+                Ok(own) => {
                     let behind = at + own.used;
                     let more = count + 1;
-                    Word::Took {
+                    Ok(Took {
                         word: own.first,
                         place: behind,
                         count: more,
-                    }
+                    })
                 }
             }
         }
@@ -176,14 +163,14 @@ fn key_by(ahead: bool, one: u64, other: u64) -> Key
 }
 
 // The next message of some bytes, whatever its fields are.
-fn next_any(table: &[u8], l: Layout, f: Fields, part: &[u8]) -> NextMessage
+fn next_any(table: &[u8], l: Layout, f: Fields, part: &[u8]) -> Result<Message, RefusedAt>
     requires { KeyedBy table.now l f }
     ensures { result ≡ next_answer (next_of (keys_of table.now l f) part.now) }
 {
     let one = key_word(table, l, f.from, f.before, f.ahead, part, 0, 1);
     match one {
-        Word::Refused { why, place } => NextMessage::Stops { why, place },
-        Word::Took { word, place, count } => {
+        Err(RefusedAt { why, place }) => Err(RefusedAt { why, place }),
+        Ok(Took { word, place, count }) => {
             let from = f.from + 2 * (f.before + 1);
             let other = key_word(
                 table,
@@ -196,26 +183,26 @@ fn next_any(table: &[u8], l: Layout, f: Fields, part: &[u8]) -> NextMessage
                 count,
             );
             match other {
-                Word::Refused { why, place: at } => NextMessage::Stops { why, place: at },
-                Word::Took {
+                Err(RefusedAt { why, place: at }) => Err(RefusedAt { why, place: at }),
+                Ok(Took {
                     word: second,
                     place: at,
                     count: more,
-                } => {
+                }) => {
                     let behind = from + 2 * (f.between + 1);
                     let got = skim(table, l, behind, f.behind, &part[at..], at, more);
                     match got {
-                        ReadAnswer::Refused {
+                        Err(Stopped {
                             why,
                             place: end,
                             count: _,
-                        } => NextMessage::Stops { why, place: end },
-                        ReadAnswer::Done {
+                        }) => Err(RefusedAt { why, place: end }),
+                        Ok(Reached {
                             place: len,
                             count: _,
-                        } => {
+                        }) => {
                             let key = key_by(f.ahead, word, second);
-                            NextMessage::Message { key, len }
+                            Ok(Message { key, len })
                         }
                     }
                 }
@@ -311,11 +298,11 @@ fn past_long_key(narrow: bool, part: &[u8], at: usize) -> Taken
 {
     let item = take_word(narrow, &part[at..]);
     match item {
-        Item::Refused { why: _ } => {
+        Err(_) => {
             let behind = part.len() + 1;
             Taken { word: 0, behind }
         }
-        Item::Took { own } => {
+        Ok(own) => {
             let behind = at + own.used;
             Taken {
                 word: own.first,
@@ -395,18 +382,18 @@ fn past_keys(table: &[u8], l: Layout, f: Fields, part: &[u8]) -> Both
 }
 
 // The same answer, made anew, so that it meets the others in registers.
-fn anew(got: NextMessage) -> NextMessage
+fn anew(got: Result<Message, RefusedAt>) -> Result<Message, RefusedAt>
     ensures { result ≡ got }
 {
-    let NextMessage::Message { key, len } = got else {
+    let Ok(Message { key, len }) = got else {
         return got;
     };
-    NextMessage::Message { key, len }
+    Ok(Message { key, len })
 }
 
 // The next message of some bytes. Most are integers alone, and are gone through without a call; where another field stands behind
 // the key fields, the rest is skimmed, and where one stands in front of them, all is read anew.
-pub fn next(table: &[u8], l: Layout, f: Fields, part: &[u8]) -> NextMessage
+pub fn next(table: &[u8], l: Layout, f: Fields, part: &[u8]) -> Result<Message, RefusedAt>
     requires { KeyedBy table.now l f }
     ensures { result ≡ next_answer (next_of (keys_of table.now l f) part.now) }
 {
@@ -425,16 +412,16 @@ pub fn next(table: &[u8], l: Layout, f: Fields, part: &[u8]) -> NextMessage
     let end = past_ints(table, l, from, f.behind, part, at);
     let key = key_by(f.ahead, both.one, both.other);
     if end <= len {
-        return NextMessage::Message { key, len: end };
+        return Ok(Message { key, len: end });
     }
     let got = skim(table, l, from, f.behind, &part[at..], at, front);
     match got {
-        ReadAnswer::Refused {
+        Err(Stopped {
             why,
             place,
             count: _,
-        } => NextMessage::Stops { why, place },
-        ReadAnswer::Done { place, count: _ } => NextMessage::Message { key, len: place },
+        }) => Err(RefusedAt { why, place }),
+        Ok(Reached { place, count: _ }) => Ok(Message { key, len: place }),
     }
 }
 
@@ -455,8 +442,8 @@ fn has_key_any(table: &[u8], l: Layout, f: Fields, part: &[u8], key: Key) -> boo
 {
     let one = key_word(table, l, f.from, f.before, f.ahead, part, 0, 1);
     match one {
-        Word::Refused { why: _, place: _ } => false,
-        Word::Took { word, place, count } => {
+        Err(RefusedAt { why: _, place: _ }) => false,
+        Ok(Took { word, place, count }) => {
             let from = f.from + 2 * (f.before + 1);
             let other = key_word(
                 table,
@@ -469,12 +456,12 @@ fn has_key_any(table: &[u8], l: Layout, f: Fields, part: &[u8], key: Key) -> boo
                 count,
             );
             match other {
-                Word::Refused { why: _, place: _ } => false,
-                Word::Took {
+                Err(RefusedAt { why: _, place: _ }) => false,
+                Ok(Took {
                     word: second,
                     place: _,
                     count: _,
-                } => {
+                }) => {
                     let own = key_by(f.ahead, word, second);
                     same_key(own, key)
                 }
@@ -552,29 +539,29 @@ fn is_of(table: &[u8], l: Layout, at: usize, number: u8) -> bool
 }
 
 // The key fields that a good table's root has at two places.
-pub fn fields_of(table: &[u8], l: Layout, store: usize, product: usize) -> Found
+pub fn fields_of(table: &[u8], l: Layout, store: usize, product: usize) -> Option<Fields>
     requires { GoodTable table.now l }
     ensures { Finds table.now l store product result }
 {
     let root = l.root;
     let number = table::kind_at(table, l, root);
     if number != 18 {
-        return Found::Unfit;
+        return None;
     }
     let width = table::child_count(table, l, root);
     let from = table::first_child(table, l, root);
     if width <= store {
-        return Found::Unfit;
+        return None;
     }
     if width <= product {
-        return Found::Unfit;
+        return None;
     }
     if !is_of(table, l, from + 2 * store, 7) {
-        return Found::Unfit;
+        return None;
     }
     if !is_of(table, l, from + 2 * product, 8) {
-        return Found::Unfit;
+        return None;
     }
     let fields = in_order(from, width, store, product);
-    Found::At { fields }
+    Some(fields)
 }

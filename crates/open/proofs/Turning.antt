@@ -18,13 +18,13 @@ use Rattle.laws.specs.KindRanges.{IsInner}
 use Rattle.table.specs.Parts.{row_step, rounds_step}
 use Rattle.read_item.specs.Lay.{Left, lay}
 use Rattle.read_item.specs.Steps.{spot}
-use Rattle.reader.specs.declared.Begun.{Begun}
-use Rattle.reader.specs.declared.Begun.TheVariants.{At, Full}
+use Rattle.reader.specs.Begun.{Begun}
+use Rattle.reader.specs.Begun.{At, Full}
 use Rattle.reader.specs.Steps.{Begins, bare, put, full as crowded}
 use Rattle.reader.proofs.Rounds.{begun-full, begun-at}
 use Rattle.open.specs.declared.Held.{Held}
-use Rattle.open.specs.declared.Step.{Step}
-use Rattle.open.specs.declared.Step.TheVariants.{On, Refused}
+use Rattle.open.specs.Step.{Step}
+use Rattle.open.specs.Step.{On, Refused}
 use Rattle.open.specs.Items.{held_at, holding, helds_of, leaving, unread, pending, Chain}
 use Rattle.open.specs.Steps.{last_from, Passes, Inward, Leads, passes, stops, Rounds, begins, full, Turns, goes, refuses, Works, Opens}
 use Rattle.open.proofs.Words.{helds-held}

@@ -7,7 +7,7 @@ use native.Mathlib.Omega.{arith}
 use lib.ListN.{length}
 use Rattle.wire.specs.declared.Refusal.{Refusal}
 use Rattle.wire.specs.declared.Layout.{Layout}
-use Rattle.wire.specs.declared.ReadAnswer.TheVariants.{Done, Refused as NotRead}
+use Rattle.wire.specs.ReadAnswer.{Done, Refused as NotRead}
 use Rattle.wire.specs.Reading.{Head}
 use Rattle.laws.proofs.Parts.{tail, length-tail}
 use Rattle.read_item.specs.Lay.{Left, lay}
@@ -16,8 +16,8 @@ use Rattle.read_item.proofs.Laying.{lay-nothing}
 use Rattle.reader.specs.Steps.{Gives}
 use Rattle.reader.proofs.Laying.{gives-done}
 use Rattle.reader.proofs.Turns.{from}
-use Rattle.open.specs.declared.Step.{Step}
-use Rattle.open.specs.declared.Step.TheVariants.{On, Refused}
+use Rattle.open.specs.Step.{Step}
+use Rattle.open.specs.Step.{On, Refused}
 use Rattle.open.specs.Items.{helds_of, pending, Chain, load}
 use Rattle.open.specs.Steps.{Goes, Turns, goes, refuses, Works}
 

@@ -1,3 +1,4 @@
 pub mod Parting
 pub mod Pairs
 pub mod Promise
+pub mod Next

@@ -2,7 +2,7 @@
 #![tactic(auto)]
 
 ghost use Rattle.std.specs.Prelude.{◌≡◌, ◌≤◌, length};
-ghost use Rattle.wire.specs.declared.Checked.TheVariants.{Good};
+ghost use Rattle.wire.specs.Checked.{Good};
 ghost use Rattle.wire.specs.Table.{check as check_of};
 ghost use Rattle.wire.specs.Answers.{area_bytes};
 ghost use Rattle.append.specs.Compare.{Asked};
@@ -10,7 +10,15 @@ ghost use Rattle.parting.specs.Parting.{parted_within};
 ghost use Rattle.parting.specs.Pairs.{parting_at, Followed, Stored};
 ghost use Rattle.parting.specs.Promise.{Parts, Finds};
 
-use wire::{Checked, Layout, Refusal, Side};
+use wire::{Layout, Refusal, RefusedAt, Side};
+
+// A step down to two children, the position of both, and the nodes.
+#[derive(Clone, Copy)]
+struct Down {
+    position: u64,
+    p: usize,
+    q: usize,
+}
 
 // How many positions a path has room for: one for each node of a good table's longest chain of children, and its last node takes none.
 const ROOM: usize = 256;
@@ -30,13 +38,6 @@ pub enum Parting {
     ShortArea,
 }
 
-// Where the way goes on from a pair of nodes: nowhere, or to their children p and q at a position.
-#[derive(Clone, Copy)]
-enum Next {
-    Here,
-    Down { position: u64, p: usize, q: usize },
-}
-
 // The first pair of children that doesn't match, where the kinds are the same.
 fn next_pair(
     old: &[u8],
@@ -46,14 +47,14 @@ fn next_pair(
     m: Layout,
     j: usize,
     area: &mut [u8],
-) -> Next
+) -> Option<Down>
     requires { Asked old.now l i new.now m j area.old }
     ensures { Followed old.now l i new.now m j area.new result }
 {
     let number = table::kind_at(old, l, i);
     let other = table::kind_at(new, m, j);
     if number != other {
-        return Next::Here;
+        return None;
     }
     let mut olds = table::child_count(old, l, i);
     let mut news = table::child_count(new, m, j);
@@ -62,12 +63,12 @@ fn next_pair(
     let mut position = 0u64;
     while 0 < olds {
         if news == 0 {
-            return Next::Here;
+            return None;
         }
         let p = table::u16_at(old, from);
         let q = table::u16_at(new, at);
         if !append::nodes_match(old, l, p, new, m, q, area) {
-            return Next::Down { position, p, q };
+            return Some(Down { position, p, q });
         }
         olds = olds - 1;
         news = news - 1;
@@ -75,7 +76,7 @@ fn next_pair(
         at = at + 2;
         position = position + 1;
     }
-    Next::Here
+    None
 }
 
 // The positions from the roots down, and how many there are.
@@ -94,7 +95,7 @@ fn go_down(
     let mut j = m.root;
     let mut depth = 0;
     loop {
-        let Next::Down { position, p, q } = next_pair(old, l, i, new, m, j, area) else {
+        let Some(Down { position, p, q }) = next_pair(old, l, i, new, m, j, area) else {
             return depth;
         };
         path[depth] = position;
@@ -131,12 +132,12 @@ fn after_old(old: &[u8], l: Layout, new: &[u8], area: &mut [u8], path: &mut [u64
     ensures { Parts (parted_within old.now new.now) path.old result path.new }
 {
     match table::check(new) {
-        Checked::Bad { why, place } => Parting::Refused {
+        Err(RefusedAt { why, place }) => Parting::Refused {
             side: Side::New,
             why,
             place,
         },
-        Checked::Good { layout } => of_good(old, l, new, layout, area, path),
+        Ok(layout) => of_good(old, l, new, layout, area, path),
     }
 }
 
@@ -146,12 +147,12 @@ fn find_within(old: &[u8], new: &[u8], area: &mut [u8], path: &mut [u64; ROOM]) 
     ensures { Parts (parted_within old.now new.now) path.old result path.new }
 {
     match table::check(old) {
-        Checked::Bad { why, place } => Parting::Refused {
+        Err(RefusedAt { why, place }) => Parting::Refused {
             side: Side::Old,
             why,
             place,
         },
-        Checked::Good { layout } => after_old(old, layout, new, area, path),
+        Ok(layout) => after_old(old, layout, new, area, path),
     }
 }
 

@@ -1,5 +1,6 @@
 -- What is promised of night batches follows from the laws of `batches`: an answer that is done names what was made, and the laws say what that is.
 -- Assumes nothing.
+use Rattle.std.specs.Prelude.{Err}
 use mathlib.Core.Path.{◌≡◌, refl, sym, ap, ◌∙◌}
 use mathlib.Core.Bool.{Bool, true, false}
 use mathlib.Core.List.{List, [], ◌++◌, append_assoc, append-nil}
@@ -10,8 +11,8 @@ use lib.ListN.{length, take, drop, get_or, length-append, length-drop}
 use lib.Seq.{take_at, drop_at, drop-append-le}
 use lib.Dec.{ltb}
 use borrow.Author.Tests.{ltb-true, le-leb, ne_eqb}
-use Rattle.wire.specs.declared.Checked.{Checked}
-use Rattle.wire.specs.declared.Checked.TheVariants.{Good as GoodTable, Bad as BadTable}
+use Rattle.wire.specs.Checked.{Checked}
+use Rattle.wire.specs.Checked.{Good as GoodTable, Bad as BadTable}
 use Rattle.wire.specs.Tests.{pick, given, both}
 use Rattle.wire.specs.Shape.{Shape}
 use Rattle.wire.specs.Table.{check}
@@ -19,8 +20,8 @@ use Rattle.laws.specs.Range.{AreBytes}
 use Rattle.laws.proofs.Bytes.{below-drop}
 use Rattle.desk.specs.declared.Fault.{Fault}
 use Rattle.desk.specs.declared.Fault.TheVariants.{Wire, Fields, Batch as BadBatch, Missing}
-use Rattle.desk.specs.declared.BatchWritten.TheVariants.{Done as Written, Refused as NotWritten}
-use Rattle.desk.specs.declared.BatchFound.TheVariants.{Part as Found, Refused as NotFound}
+use Rattle.desk.specs.BatchWritten.{Done as Written, Refused as NotWritten}
+use Rattle.desk.specs.BatchFound.{Part as Found, Refused as NotFound}
 use Rattle.desk.specs.declared.Key.{Key}
 use Rattle.desk.specs.Rows.{same_key, sort, some_if, number_at, rows_bytes, row_at, rows_at}
 use Rattle.desk.specs.Messages.{Keyed, is_keyed, Message, Cut, next, stops, next_of, Split, whole, broken, split, joined, rows_of, Part}
@@ -197,7 +198,7 @@ module _ (table : List ℕ) (why : Fault) where
   shape-refuses : (c : Checked) → check table ≡ c → shape_by c table ≡ fault why → Refuses table why
   unfolding shape_by
   shape-refuses (GoodTable l) h e = not-fault e
-  shape-refuses (BadTable r i) h e = let q : Wire r i ≡ why = cc in rw (← q) (table-bad h)
+  shape-refuses (Err it) h e = let q : Wire it.why it.place ≡ why = cc in rw (← q) (table-bad h)
 
   keyed-refuses : (k : Keyed) → keyed k ≡ fault why → Refuses table why
   unfolding keyed

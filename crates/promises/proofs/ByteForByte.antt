@@ -1,5 +1,6 @@
 -- What was read of a message is written again to no more bytes, and to the same ones exactly if every item was in its shortest form; these are the messages that are read strictly, so that their values and their bytes say the same.
 -- Assumes nothing.
+use Rattle.std.specs.Prelude.{Err}
 use mathlib.Core.Path.{◌≡◌, refl, sym, ap, subst, ◌∙◌}
 use mathlib.Core.Bool.{true, false}
 use mathlib.Core.List.{List, [], ◌++◌, append-nil}
@@ -10,11 +11,11 @@ use lib.ListN.{length, take, drop, replicate, length-replicate}
 use lib.Seq.{length-take-le, take-append_seam}
 use borrow.Author.Tests.{le-leb, eq-eqb}
 use Rattle.wire.specs.declared.Layout.{Layout}
-use Rattle.wire.specs.declared.Checked.{Checked}
-use Rattle.wire.specs.declared.Checked.TheVariants.{Good, Bad}
-use Rattle.wire.specs.declared.ReadAnswer.TheVariants.{Done as Read}
-use Rattle.wire.specs.declared.WriteAnswer.{WriteAnswer}
-use Rattle.wire.specs.declared.WriteAnswer.TheVariants.{Done as Written}
+use Rattle.wire.specs.Checked.{Checked}
+use Rattle.wire.specs.Checked.{Good, Bad}
+use Rattle.wire.specs.ReadAnswer.{Done as Read}
+use Rattle.wire.specs.WriteAnswer.{WriteAnswer}
+use Rattle.wire.specs.WriteAnswer.{Done as Written}
 use Rattle.wire.specs.Tests.{pick, given}
 use Rattle.wire.specs.Table.{check, shape_of}
 use Rattle.wire.specs.Values.{Entry, tell}
@@ -79,7 +80,7 @@ unfolding reads read_by
 again table message store limit es x bs e fits = go (check table) refl e
   where
     go : (c : Checked) → check table ≡ c → read_by false c table (room_of store) message ≡ record { made = es; ends = reached x } → Again table message es x.place limit
-    go (Bad why i) q h = let z : ◌≡◌ {A = ℕ} 0 1 = cc (ap (λ r. r.ends) h) in absurd (omega arith)
+    go (Err it) q h = let z : ◌≡◌ {A = ℕ} 0 1 = cc (ap (λ r. r.ends) h) in absurd (omega arith)
     go (Good l) q h =
         let t = shape_of table l in
         let free = (fit-reached (room_of store) (read t (front message)) es x (rw reads_plain at h)).1 in

@@ -8,8 +8,8 @@ use native.Mathlib.Omega.{arith}
 use lib.ListN.{length, drop}
 use Rattle.wire.specs.declared.Refusal.{Refusal}
 use Rattle.wire.specs.declared.Own.{Own}
-use Rattle.wire.specs.declared.Item.{Item}
-use Rattle.wire.specs.declared.Item.TheVariants.{Took, Refused as NotTaken}
+use Rattle.wire.specs.Item.{Item}
+use Rattle.wire.specs.Item.{Took, Refused as NotTaken}
 use Rattle.wire.specs.declared.Layout.{Layout}
 use Rattle.wire.specs.Shape.{Kind}
 use Rattle.wire.specs.Table.{u16_at, kind_of, node_at, record_of, shapes_at}
@@ -23,8 +23,8 @@ use Rattle.columns.proofs.Styled.{node-kind, rowed-next}
 use Rattle.put_number.specs.Lays.{Lays}
 use Rattle.put_number.proofs.Laying.{lays-puts, lays-both}
 use Rattle.put_field.specs.Fields.{field_of}
-use Rattle.put_row.specs.declared.Row.{Row}
-use Rattle.put_row.specs.declared.Row.TheVariants.{Laid, Refused}
+use Rattle.put_row.specs.Row.{Row}
+use Rattle.put_row.specs.Row.{Laid, Refused}
 use Rattle.put_row.specs.Rows.{Told, spells, stops, after, separator, field_then, one_field, fields_from, LaysRow, laid, refused}
 use Rattle.put_row.proofs.Items.{behind}
 

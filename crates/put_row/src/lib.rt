@@ -8,13 +8,13 @@ ghost use Rattle.columns.specs.Columns.{is_some, field_shapes, Rowed};
 ghost use Rattle.put_number.specs.Lays.{Lays};
 ghost use Rattle.put_row.specs.Rows.{separator, one_field, fields_from, LaysRow};
 
-use wire::{Item, Layout, Refusal};
+use wire::{Layout, Refusal, RefusedAt};
 
-// So many bytes are laid, of what was read up to a place of the message; or the reader's own refusal.
+// A row that was laid: the place behind its message, and its length.
 #[derive(Clone, Copy)]
-pub enum Row {
-    Laid { place: usize, len: usize },
-    Refused { why: Refusal, place: usize },
+pub struct Laid {
+    pub place: usize,
+    pub len: usize,
 }
 
 // The comma in front of a field that isn't the first.
@@ -43,19 +43,19 @@ fn put_next(
     place: usize,
     out: &mut [u8],
     used: usize,
-) -> Row
+) -> Result<Laid, RefusedAt>
     requires place_in_bounds { place ≤ length message.now }
     requires number_value { is_some (style_of (kind_of number)) ≡ true }
     ensures { LaysRow (one_field first message.now (kind_of number) place) used out.old result out.new }
 {
     let got = leaf::take(number, &message[place..], place);
     match got {
-        Item::Refused { why } => Row::Refused { why, place },
-        Item::Took { own } => {
+        Err(why) => Err(RefusedAt { why, place }),
+        Ok(own) => {
             let behind = place + own.used;
             let next = put_between(first, out, used);
             let len = put_field::put_field(number, own.first, own.second, message, out, next);
-            Row::Laid { place: behind, len }
+            Ok(Laid { place: behind, len })
         }
     }
 }
@@ -68,7 +68,7 @@ pub fn put_row(
     width: usize,
     message: &[u8],
     out: &mut [u8],
-) -> Row
+) -> Result<Laid, RefusedAt>
     requires { Rowed table.now l from width }
     ensures { LaysRow (fields_from message.now true (field_shapes table.now l from width) 0) 0 out.old result out.new }
 {
@@ -81,7 +81,7 @@ pub fn put_row(
         let c = table::u16_at(table, child);
         let number = table::kind_at(table, l, c);
         let got = put_next(first, number, message, at, out, to);
-        let Row::Laid { place, len } = got else {
+        let Ok(Laid { place, len }) = got else {
             return got;
         };
         at = place;
@@ -91,5 +91,5 @@ pub fn put_row(
         left = left - 1;
     }
     let len = put_end(out, to);
-    Row::Laid { place: at, len }
+    Ok(Laid { place: at, len })
 }

@@ -9,8 +9,8 @@ use lib.ListN.{length}
 use Rattle.wire.specs.declared.Refusal.{Refusal}
 use Rattle.wire.specs.declared.Refusal.TheVariants.{Room}
 use Rattle.wire.specs.declared.Own.{Own}
-use Rattle.wire.specs.declared.Item.{Item}
-use Rattle.wire.specs.declared.Item.TheVariants.{Took, Refused}
+use Rattle.wire.specs.Item.{Item}
+use Rattle.wire.specs.Item.{Took, Refused}
 use Rattle.wire.specs.declared.Layout.{Layout}
 use Rattle.wire.specs.Walk.{each, following, is_known, times, along, walks}
 use Rattle.wire.specs.Table.{kind_of, Node, node_at, record_of}
@@ -27,7 +27,7 @@ use Rattle.table.specs.declared.Stretch.{Stretch}
 use Rattle.table.specs.Parts.{Falls, followed, node_step, rounds_step}
 use Rattle.table.proofs.Stretches.{node-falls, falls-followed, along-followed}
 use Rattle.entry.specs.Words.{with_entry}
-use Rattle.read_item.specs.declared.Entered.TheVariants.{On, Refused as Refusing}
+use Rattle.read_item.specs.Entered.{On, Refused as Refusing}
 use Rattle.read_item.specs.Lay.{Left, lay}
 use Rattle.read_item.specs.Steps.{spot, own_of, after_of, Enters, goes, stops}
 use Rattle.read_item.proofs.Laying.{left, laid_none, lay-nothing, lay-entry, lay-refused}

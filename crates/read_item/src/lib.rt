@@ -11,55 +11,49 @@ ghost use Rattle.leaf.specs.Leaves.{leaf_take_at};
 ghost use Rattle.read_item.specs.Steps.{spot, Inner, own_of, Ends, TakesInt, Puts, Enters};
 
 use table::Stretch;
-use wire::{Item, Layout, Own, ReadAnswer, Refusal};
+use wire::{Layout, Own, Reached, Refusal, Stopped};
 
-// What an item leaves to do: the stretch that follows it, behind the bytes that it took; or why it is refused.
+// What follows the entry of an item that has children, and the item's own bytes.
 #[derive(Clone, Copy)]
-pub enum Entered {
-    On { to: Stretch, used: usize },
-    Refused { why: Refusal },
+pub struct Inside {
+    pub to: Stretch,
+    pub used: usize,
 }
 
 // ---- an item's own bytes
 
 // A variant's number is one of the table's.
-pub fn known(count: usize, got: Item) -> Item
+pub fn known(count: usize, got: Result<Own, Refusal>) -> Result<Own, Refusal>
     ensures { result ≡ known_of count got }
 {
-    let Item::Took { own } = got else {
+    let Ok(own) = got else {
         return got;
     };
     if own.first < count as u64 {
         // Made anew, so that it stays in registers.
-        return Item::Took {
-            own: Own {
-                first: own.first,
-                second: own.second,
-                used: own.used,
-                shortest: own.shortest,
-            },
-        };
+        return Ok(Own {
+            first: own.first,
+            second: own.second,
+            used: own.used,
+            shortest: own.shortest,
+        });
     }
-    Item::Refused {
-        why: Refusal::Variant,
-    }
+    Err(Refusal::Variant)
 }
 
 // The own bytes of an item that has children: so many, of which a variant's number names one.
-fn head_bytes(number: u8, count: usize, part: &[u8], place: usize) -> Item
+fn head_bytes(number: u8, count: usize, part: &[u8], place: usize) -> Result<Own, Refusal>
     requires { IsInner number }
     ensures { result ≡ head_of (kind_of number) count place part.now }
 {
     match number {
         15 => leaf::take_flag(part, Refusal::BadOption),
-        18 => Item::Took {
-            own: Own {
-                first: 0,
-                second: 0,
-                used: 0,
-                shortest: true,
-            },
-        },
+        18 => Ok(Own {
+            first: 0,
+            second: 0,
+            used: 0,
+            shortest: true,
+        }),
         19 => known(count, varint::take_u32(part)),
         _ => varint::take(part, varint::U64::MOST, varint::U64::LAST),
     }
@@ -79,91 +73,69 @@ fn is_longer(strict: bool, shortest: bool) -> bool
 
 // An item as a strict reading takes it, or as the plain one does: a form that isn't the shortest is refused, after every other
 // refusal of the item. It is made anew, so that one that a call left in memory goes on in registers.
-fn judge(strict: bool, got: Item) -> Item
+fn judge(strict: bool, got: Result<Own, Refusal>) -> Result<Own, Refusal>
     ensures { result ≡ judged strict got }
 {
-    let Item::Took { own } = got else {
+    let Ok(own) = got else {
         return got;
     };
     if is_longer(strict, own.shortest) {
-        return Item::Refused {
-            why: Refusal::NotShortest,
-        };
+        return Err(Refusal::NotShortest);
     }
-    Item::Took {
-        own: Own {
-            shortest: own.shortest,
-            first: own.first,
-            second: own.second,
-            used: own.used,
-        },
-    }
+    Ok(Own {
+        shortest: own.shortest,
+        first: own.first,
+        second: own.second,
+        used: own.used,
+    })
 }
 
 // ---- a leaf
 
-// The own bytes of an integer that isn't of fixed size, or that the kind is another.
-#[derive(Clone, Copy)]
-pub enum Int {
-    Is { item: Item },
-    Other,
-}
-
 // An integer, read plainly. It is taken here, as `leaf::take` does it: that has several callers and so stays a call, which
 // costs more than most integers. It is apart from other leaves and from strict readings, whose items come by that call,
 // since it is what most messages hold most of; and it finds out whether it is one by the same step that takes it.
-pub fn int_bytes(number: u8, part: &[u8]) -> Int
+pub fn int_bytes(number: u8, part: &[u8]) -> Option<Result<Own, Refusal>>
     ensures { TakesInt number part.now result }
 {
     match number {
-        1 => Int::Is {
-            item: fixint::take8(part, true),
-        },
-        2 => Int::Is {
-            item: leaf::unzigzag(varint::take_u16(part)),
-        },
-        3 => Int::Is {
-            item: leaf::unzigzag(varint::take_u32(part)),
-        },
-        4 => Int::Is {
-            item: leaf::unzigzag(varint::take(part, varint::U64::MOST, varint::U64::LAST)),
-        },
-        5 => Int::Is {
-            item: fixint::take8(part, false),
-        },
-        6 => Int::Is {
-            item: varint::take_u16(part),
-        },
-        7 => Int::Is {
-            item: varint::take_u32(part),
-        },
-        8 => Int::Is {
-            item: varint::take(part, varint::U64::MOST, varint::U64::LAST),
-        },
-        _ => Int::Other,
+        1 => Some(fixint::take8(part, true)),
+        2 => Some(leaf::unzigzag(varint::take_u16(part))),
+        3 => Some(leaf::unzigzag(varint::take_u32(part))),
+        4 => Some(leaf::unzigzag(varint::take(part, varint::U64::MOST, varint::U64::LAST))),
+        5 => Some(fixint::take8(part, false)),
+        6 => Some(varint::take_u16(part)),
+        7 => Some(varint::take_u32(part)),
+        8 => Some(varint::take(part, varint::U64::MOST, varint::U64::LAST)),
+        _ => None,
     }
 }
 
 // The entry of a leaf, or why it is refused.
-pub fn lay(got: Item, place: usize, store: &mut [u64], made: usize) -> ReadAnswer
+pub fn lay(
+    got: Result<Own, Refusal>,
+    place: usize,
+    store: &mut [u64],
+    made: usize,
+) -> Result<Reached, Stopped>
     requires ends { Ends place got }
     requires made_bound { made + 1 < 2 ^ 64 }
     ensures { Puts place made store.old got result store.new }
 {
     match got {
-        Item::Refused { why } => ReadAnswer::Refused {
+        Err(why) => Err(Stopped {
             why,
             place,
             count: made,
-        },
-        Item::Took { own } => {
+        }),
+        Ok(own) => {
             entry::put(store, made, own.first, own.second, place);
             let behind = place + own.used;
             let count = made + 1;
-            ReadAnswer::Done {
+            Ok(Reached {
                 place: behind,
                 count,
-            }
+            })
         }
     }
 }
@@ -176,7 +148,7 @@ pub fn read_leaf(
     place: usize,
     store: &mut [u64],
     made: usize,
-) -> ReadAnswer
+) -> Result<Reached, Stopped>
     requires part_bound { place + length part.now < 2 ^ 64 }
     requires made_bound { made + 1 < 2 ^ 64 }
     ensures { Puts place made store.old (judged strict (leaf_take_at number place part.now)) result store.new }
@@ -198,7 +170,7 @@ pub fn enter(
     place: usize,
     store: &mut [u64],
     made: usize,
-) -> Entered
+) -> Result<Inside, Refusal>
     requires good_table { GoodTable table.now l }
     requires node_lt_nodes { node < l.nodes }
     requires inner { Inner table.now l node number }
@@ -207,17 +179,15 @@ pub fn enter(
     let width = table::child_count(table, l, node);
     let got = head_bytes(number, width, part, place);
     match got {
-        Item::Refused { why } => Entered::Refused { why },
-        Item::Took { own } => {
+        Err(why) => Err(why),
+        Ok(own) => {
             if is_longer(strict, own.shortest) {
-                return Entered::Refused {
-                    why: Refusal::NotShortest,
-                };
+                return Err(Refusal::NotShortest);
             }
             entry::put(store, made, own.first, own.second, place);
             let from = table::first_child(table, l, node);
             let to = table::follow(number, own.first, from, width);
-            Entered::On { to, used: own.used }
+            Ok(Inside { to, used: own.used })
         }
     }
 }

@@ -7,10 +7,10 @@ use Prim.Native.Nat.{ℕ, ◌+◌, ◌-◌, ◌<◌, ◌≤◌, ◌^◌}
 use native.Mathlib.Omega.{arith}
 use lib.ListN.{length, take, drop}
 use Rattle.wire.specs.declared.Refusal.{Refusal}
-use Rattle.wire.specs.declared.Item.{Item}
+use Rattle.wire.specs.Item.{Item}
 use Rattle.wire.specs.declared.Layout.{Layout}
-use Rattle.wire.specs.declared.ReadAnswer.{ReadAnswer}
-use Rattle.wire.specs.declared.ReadAnswer.TheVariants.{Done, Refused}
+use Rattle.wire.specs.ReadAnswer.{ReadAnswer}
+use Rattle.wire.specs.ReadAnswer.{Done, Refused}
 use Rattle.wire.specs.Table.{u16_at, kind_of, node_at, record_of, shapes_at}
 use Rattle.wire.specs.Reading.{Head, Spot, Outcome, reached, refused, Run, head, judged, head_by, past, read_then, reading, fit}
 use Rattle.wire.specs.Answers.{read_answer}
@@ -26,8 +26,8 @@ use Rattle.table.specs.declared.Stretch.{Stretch}
 use Rattle.table.specs.declared.Way.{Way}
 use Rattle.table.specs.Parts.{Flat, under, node_step, row_step, rounds_step}
 use Rattle.table.proofs.Stretches.{row-end, row_first, rounds-end, rounds-first, flat-rounds}
-use Rattle.read_item.specs.declared.Entered.{Entered}
-use Rattle.read_item.specs.declared.Entered.TheVariants.{On}
+use Rattle.read_item.specs.Entered.{Entered}
+use Rattle.read_item.specs.Entered.{On}
 use Rattle.read_item.specs.declared.Entered.TheVariants as entered
 use Rattle.read_item.specs.Lay.{Left, laid, lay}
 use Rattle.read_item.specs.Steps.{spot, own_of, after_of, Puts, entry, same, Enters, goes, stops}

@@ -9,9 +9,9 @@ ghost use Rattle.replay.specs.Told.{Tells, made, which, pairs_or_which};
 
 use crate::{nights, rows};
 use accumulator::Step;
-use desk::{CompareAnswer, FindAnswer, OpenAnswer};
+use desk::{Found, NotCompared, NotFound, NotOpened};
+use wire::{NotAsked, Reached, RefusedAt, Stopped, Taken};
 use recorded::{field, memory};
-use wire::{AskAnswer, ReadAnswer, TakeAnswer, WriteAnswer};
 
 // The room for the words of a store, a value list, a path or a list of pairs, for the bytes of an output and of an accumulator.
 const WORDS: usize = 256 * entry::WORDS;
@@ -89,16 +89,16 @@ pub fn tells(record: &[u8], told: Told) -> bool {
 // ---- reading
 
 #[tactic(auto, unfolding(wire::specs::Answers::read_says, wire::specs::Answers::done, wire::specs::Answers::numbered, crate::specs::Told::made))]
-fn read_told(answer: ReadAnswer) -> Told
+fn read_told(answer: Result<Reached, Stopped>) -> Told
     ensures { Tells (read_says answer) (made answer) result }
 {
     match answer {
-        ReadAnswer::Done { place, count } => Told {
+        Ok(Reached { place, count }) => Told {
             number: 0,
             second: place as u64,
             third: count as u64,
         },
-        ReadAnswer::Refused { why, place, count } => Told {
+        Err(Stopped { why, place, count }) => Told {
             number: numbers::refusal(why),
             second: place as u64,
             third: count as u64,
@@ -132,21 +132,21 @@ fn read_over(strict: bool, record: &[u8], store: &mut [u64], then: &mut [u64]) -
 }
 
 #[tactic(auto, unfolding(desk::specs::Listed::open_says, desk::specs::Listed::open_count, wire::specs::Answers::done, wire::specs::Answers::numbered))]
-fn open_told(answer: OpenAnswer) -> Told
+fn open_told(answer: Result<Reached, NotOpened>) -> Told
     ensures { Tells (open_says answer) (open_count answer) result }
 {
     match answer {
-        OpenAnswer::Done { place, count } => Told {
+        Ok(Reached { place, count }) => Told {
             number: 0,
             second: place as u64,
             third: count as u64,
         },
-        OpenAnswer::Refused { why, place, count } => Told {
+        Err(NotOpened::Refused { why, place, count }) => Told {
             number: numbers::refusal(why),
             second: place as u64,
             third: count as u64,
         },
-        OpenAnswer::ShortList => Told {
+        Err(NotOpened::ShortList) => Told {
             number: numbers::SHORT_OPEN,
             second: 0,
             third: 0,
@@ -222,16 +222,16 @@ fn read_agrees(strict: bool, record: &[u8]) -> bool {
 // ---- writing
 
 #[tactic(auto, unfolding(wire::specs::Answers::write_says, wire::specs::Answers::done, wire::specs::Answers::numbered))]
-fn write_told(answer: WriteAnswer) -> Told
+fn write_told(answer: Result<usize, RefusedAt>) -> Told
     ensures { Tells (write_says answer) 0 result }
 {
     match answer {
-        WriteAnswer::Done { place } => Told {
+        Ok(place) => Told {
             number: 0,
             second: place as u64,
             third: 0,
         },
-        WriteAnswer::Refused { why, place } => Told {
+        Err(RefusedAt { why, place }) => Told {
             number: numbers::refusal(why),
             second: place as u64,
             third: 0,
@@ -276,21 +276,21 @@ fn write_agrees(record: &[u8]) -> bool {
 // ---- the append question
 
 #[tactic(auto, unfolding(wire::specs::Answers::ask_says, wire::specs::Answers::done, wire::specs::Answers::numbered, crate::specs::Told::which))]
-fn ask_told(answer: AskAnswer) -> Told
+fn ask_told(answer: Result<bool, NotAsked>) -> Told
     ensures { Tells (ask_says answer) (which answer) result }
 {
     match answer {
-        AskAnswer::Says { yes } => Told {
+        Ok(yes) => Told {
             number: 0,
             second: 0,
             third: numbers::yes(yes),
         },
-        AskAnswer::Refused { side, why, place } => Told {
+        Err(NotAsked::Table { side, why, place }) => Told {
             number: numbers::refusal(why),
             second: place as u64,
             third: numbers::side(side),
         },
-        AskAnswer::ShortArea => Told {
+        Err(NotAsked::ShortArea) => Told {
             number: numbers::SHORT_AREA,
             second: 0,
             third: 0,
@@ -417,21 +417,21 @@ fn bridge_agrees(record: &[u8]) -> bool {
 // ---- taking an item
 
 #[tactic(auto, unfolding(wire::specs::Answers::take_says, wire::specs::Answers::done, wire::specs::Answers::numbered))]
-fn take_told(answer: TakeAnswer, behind: usize) -> Told
+fn take_told(answer: Result<Taken, RefusedAt>, behind: usize) -> Told
     ensures { Tells (take_says answer) behind result }
 {
     match answer {
-        TakeAnswer::Done {
+        Ok(Taken {
             first: _,
             second: _,
             at: _,
             place,
-        } => Told {
+        }) => Told {
             number: 0,
             second: place as u64,
             third: behind as u64,
         },
-        TakeAnswer::Refused { why, place } => Told {
+        Err(RefusedAt { why, place }) => Told {
             number: numbers::refusal(why),
             second: place as u64,
             third: behind as u64,
@@ -440,15 +440,15 @@ fn take_told(answer: TakeAnswer, behind: usize) -> Told
 }
 
 // Whether the answer has the entry that the record has, or none where it has none.
-fn is_entry(record: &[u8], answer: TakeAnswer) -> bool {
+fn is_entry(record: &[u8], answer: Result<Taken, RefusedAt>) -> bool {
     let then = field::part(record, 6);
     match answer {
-        TakeAnswer::Done {
+        Ok(Taken {
             first,
             second,
             at,
             place: _,
-        } => {
+        }) => {
             if then.len() != 8 * entry::WORDS {
                 return false;
             }
@@ -458,7 +458,7 @@ fn is_entry(record: &[u8], answer: TakeAnswer) -> bool {
             memory::put_words(&mut words, then);
             memory::same_words(&made, &words)
         }
-        TakeAnswer::Refused { why: _, place: _ } => then.len() == 0,
+        Err(RefusedAt { why: _, place: _ }) => then.len() == 0,
     }
 }
 
@@ -479,30 +479,30 @@ fn take_agrees(record: &[u8]) -> bool {
 // ---- finding an item
 
 #[tactic(auto, unfolding(desk::specs::Path::find_says, desk::specs::Path::first_of, wire::specs::Answers::done, wire::specs::Answers::numbered))]
-fn find_told(answer: FindAnswer) -> Told
+fn find_told(answer: Result<Found, NotFound>) -> Told
     ensures { Tells (find_says answer) (first_of answer) result }
 {
     match answer {
-        FindAnswer::Found {
+        Ok(Found {
             first,
             second: _,
             place,
-        } => Told {
+        }) => Told {
             number: 0,
             second: place as u64,
             third: first,
         },
-        FindAnswer::NoItem => Told {
+        Err(NotFound::NoItem) => Told {
             number: numbers::NO_ITEM,
             second: 0,
             third: 0,
         },
-        FindAnswer::Absent { place } => Told {
+        Err(NotFound::Absent { place }) => Told {
             number: numbers::ABSENT,
             second: place as u64,
             third: 0,
         },
-        FindAnswer::Refused { why, place } => Told {
+        Err(NotFound::Refused { why, place }) => Told {
             number: numbers::refusal(why),
             second: place as u64,
             third: 0,
@@ -511,18 +511,18 @@ fn find_told(answer: FindAnswer) -> Told
 }
 
 #[tactic(auto, unfolding(desk::specs::Path::second_of))]
-fn second_of(answer: FindAnswer) -> u64
+fn second_of(answer: Result<Found, NotFound>) -> u64
     ensures { result ≡ second_of answer }
 {
     match answer {
-        FindAnswer::Found {
+        Ok(Found {
             first: _,
             second,
             place: _,
-        } => second,
-        FindAnswer::NoItem => 0,
-        FindAnswer::Absent { place: _ } => 0,
-        FindAnswer::Refused { why: _, place: _ } => 0,
+        }) => second,
+        Err(NotFound::NoItem) => 0,
+        Err(NotFound::Absent { place: _ }) => 0,
+        Err(NotFound::Refused { why: _, place: _ }) => 0,
     }
 }
 
@@ -553,26 +553,26 @@ fn find_agrees(record: &[u8]) -> bool {
 // ---- two messages side by side
 
 #[tactic(auto, unfolding(desk::specs::Differ::compare_says, crate::specs::Told::pairs_or_which, wire::specs::Answers::done, wire::specs::Answers::numbered))]
-fn compare_told(answer: CompareAnswer) -> Told
+fn compare_told(answer: Result<usize, NotCompared>) -> Told
     ensures { Tells (compare_says answer) (pairs_or_which answer) result }
 {
     match answer {
-        CompareAnswer::Done { count } => Told {
+        Ok(count) => Told {
             number: 0,
             second: 0,
             third: count as u64,
         },
-        CompareAnswer::Short => Told {
+        Err(NotCompared::Short) => Told {
             number: numbers::SHORT_LIST,
             second: 0,
             third: 0,
         },
-        CompareAnswer::Refused { why, place } => Told {
+        Err(NotCompared::Refused { why, place }) => Told {
             number: numbers::refusal(why),
             second: place as u64,
             third: 0,
         },
-        CompareAnswer::OtherRefused { why, place } => Told {
+        Err(NotCompared::OtherRefused { why, place }) => Told {
             number: numbers::refusal(why),
             second: place as u64,
             third: 1,

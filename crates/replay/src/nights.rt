@@ -5,7 +5,7 @@ ghost use Rattle.replay.specs.Told.{Tells};
 
 use crate::answers;
 use crate::answers::Told;
-use desk::{BatchChecked, BatchFound, BatchWritten, Fault, Key};
+use desk::{Fault, Key, Part};
 use recorded::{field, memory};
 
 // What a record asks.
@@ -44,16 +44,16 @@ fn refused_told(why: Fault) -> Told
 // ---- writing
 
 #[tactic(auto, unfolding(desk::specs::Batch::written_says, wire::specs::Answers::done))]
-fn written_told(answer: BatchWritten) -> Told
+fn written_told(answer: Result<usize, Fault>) -> Told
     ensures { Tells (written_says answer) 0 result }
 {
     match answer {
-        BatchWritten::Done { place } => Told {
+        Ok(place) => Told {
             number: 0,
             second: place as u64,
             third: 0,
         },
-        BatchWritten::Refused { why } => refused_told(why),
+        Err(why) => refused_told(why),
     }
 }
 
@@ -88,16 +88,16 @@ fn write_agrees(record: &[u8]) -> bool {
 // ---- the check and the search
 
 #[tactic(auto, unfolding(desk::specs::Batch::checked_says, wire::specs::Answers::done))]
-fn checked_told(answer: BatchChecked) -> Told
+fn checked_told(answer: Result<(), Fault>) -> Told
     ensures { Tells (checked_says answer) 0 result }
 {
     match answer {
-        BatchChecked::Good => Told {
+        Ok(()) => Told {
             number: 0,
             second: 0,
             third: 0,
         },
-        BatchChecked::Bad { why } => refused_told(why),
+        Err(why) => refused_told(why),
     }
 }
 
@@ -107,26 +107,26 @@ fn check_agrees(record: &[u8]) -> bool {
 }
 
 #[tactic(auto, unfolding(desk::specs::Batch::found_says, desk::specs::Batch::from_of, wire::specs::Answers::done))]
-fn found_told(answer: BatchFound) -> Told
+fn found_told(answer: Result<Part, Fault>) -> Told
     ensures { Tells (found_says answer) (from_of answer) result }
 {
     match answer {
-        BatchFound::Part { from, len: _ } => Told {
+        Ok(Part { from, len: _ }) => Told {
             number: 0,
             second: 0,
             third: from as u64,
         },
-        BatchFound::Refused { why } => refused_told(why),
+        Err(why) => refused_told(why),
     }
 }
 
 #[tactic(auto, unfolding(desk::specs::Batch::len_of))]
-fn length_of(answer: BatchFound) -> u64
+fn length_of(answer: Result<Part, Fault>) -> u64
     ensures { result ≡ len_of answer }
 {
     match answer {
-        BatchFound::Part { from: _, len } => len as u64,
-        BatchFound::Refused { why: _ } => 0,
+        Ok(Part { from: _, len }) => len as u64,
+        Err(_) => 0,
     }
 }
 

@@ -2,32 +2,33 @@
 ghost use Rattle.desk.specs.Csv.{csv_says};
 ghost use Rattle.replay.specs.Told.{Tells};
 
+use desk::NotRows;
 use crate::answers;
 use crate::answers::Told;
-use desk::CsvAnswer;
+use CsvAnswer;
 use recorded::{field, memory};
 
 #[tactic(auto, unfolding(desk::specs::Csv::csv_says, wire::specs::Answers::done, wire::specs::Answers::numbered))]
-fn row_told(answer: CsvAnswer) -> Told
+fn row_told(answer: Result<usize, NotRows>) -> Told
     ensures { Tells (csv_says answer) 0 result }
 {
     match answer {
-        CsvAnswer::Done { place } => Told {
+        Ok(place) => Told {
             number: 0,
             second: place as u64,
             third: 0,
         },
-        CsvAnswer::Refused { why, place } => Told {
+        Err(NotRows::Refused { why, place }) => Told {
             number: numbers::refusal(why),
             second: place as u64,
             third: 0,
         },
-        CsvAnswer::Unfit => Told {
+        Err(NotRows::Unfit) => Told {
             number: numbers::NO_COLUMNS,
             second: 0,
             third: 0,
         },
-        CsvAnswer::NoRow { place } => Told {
+        Err(NotRows::NoRow { place }) => Told {
             number: numbers::NO_ROW,
             second: place as u64,
             third: 0,

@@ -6,7 +6,7 @@ use recorded::field::part;
 use recorded::memory::put_words;
 use say::{say, say_bytes, say_entries, say_why, say_with};
 use std::io;
-use wire::{ReadAnswer, WriteAnswer};
+use wire::{Reached, RefusedAt, Stopped};
 
 // So many value lists are to be written, of which the longest has so many words; a store has room for some more.
 const LISTS: usize = 15;
@@ -29,8 +29,8 @@ fn say_line(rt: &impl Print, bytes: &[u8]) -> io::Result<()> {
 fn write_again(rt: &impl Print, table: &[u8], words: &[u64], message: &[u8]) -> io::Result<()> {
     let mut out = [0xeeu8; ROOM];
     match writer::write(table, words, message, &mut out) {
-        WriteAnswer::Refused { why: _, place: _ } => say(rt, b"not written again\n"),
-        WriteAnswer::Done { place } => {
+        Err(RefusedAt { why: _, place: _ }) => say(rt, b"not written again\n"),
+        Ok(place) => {
             if out.as_slice() == message {
                 return say_with(rt, b"written again, # bytes: the same\n", place as u64);
             }
@@ -43,12 +43,12 @@ fn read_back(rt: &impl Print, table: &[u8], message: &[u8]) -> io::Result<()> {
     let mut store = [7u64; STORE];
     let answer = reader::read(table, message, &mut store);
     match answer {
-        ReadAnswer::Refused {
+        Err(Stopped {
             why: _,
             place: _,
             count: _,
-        } => say(rt, b"not read\n"),
-        ReadAnswer::Done { place, count } => {
+        }) => say(rt, b"not read\n"),
+        Ok(Reached { place, count }) => {
             say_with(rt, b"read # bytes:", place as u64)?;
             say_entries(rt, &store, count)?;
             say(rt, b"\nrest:")?;
@@ -61,8 +61,8 @@ fn read_back(rt: &impl Print, table: &[u8], message: &[u8]) -> io::Result<()> {
 fn there_and_back(rt: &impl Print, table: &[u8], words: &[u64], pool: &[u8]) -> io::Result<()> {
     let mut message = [0xeeu8; ROOM];
     match writer::write(table, words, pool, &mut message) {
-        WriteAnswer::Refused { why, place } => say_why(rt, why, b", at #: not written\n", place),
-        WriteAnswer::Done { place } => {
+        Err(RefusedAt { why, place }) => say_why(rt, why, b", at #: not written\n", place),
+        Ok(place) => {
             say_with(rt, b"written # bytes, then as before:", place as u64)?;
             say_line(rt, &message)?;
             read_back(rt, table, &message)
@@ -76,8 +76,8 @@ fn there_and_back(rt: &impl Print, table: &[u8], words: &[u64], pool: &[u8]) -> 
 fn write_short(rt: &impl Print, table: &[u8], words: &[u64], pool: &[u8]) -> io::Result<()> {
     let mut out = [0xeeu8; 5];
     match writer::write(table, words, pool, &mut out) {
-        WriteAnswer::Done { place } => say_with(rt, b": done at #", place as u64)?,
-        WriteAnswer::Refused { why, place } => {
+        Ok(place) => say_with(rt, b": done at #", place as u64)?,
+        Err(RefusedAt { why, place }) => {
             say(rt, b": refused ")?;
             say_why(rt, why, b", at #", place)?;
         }

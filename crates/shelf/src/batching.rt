@@ -1,7 +1,7 @@
 // Night batches: written from messages that stand end to end, checked whole, asked for the last message of a store and product,
 // and compacted.
 use crate::{decimal, files, shown};
-use desk::{BatchChecked, BatchFound, BatchWritten, Fault, Key};
+use desk::{Fault, Key, Part};
 use say::{front, say, say_bytes, say_with};
 use std::io;
 use std::rt::{Env, Runtime};
@@ -65,8 +65,8 @@ fn write(
 ) -> io::Result<()> {
     let mut out = files::largest_room();
     match batch::write(table, messages, store as usize, product as usize, &mut out) {
-        BatchWritten::Done { place } => files::save(rt, 7, front(&out, place)),
-        BatchWritten::Refused { why } => say_fault(rt, why),
+        Ok(place) => files::save(rt, 7, front(&out, place)),
+        Err(why) => say_fault(rt, why),
     }
 }
 
@@ -92,11 +92,11 @@ fn write_messages(rt: &impl Runtime, table: &[u8]) -> io::Result<()> {
 
 fn judge(rt: &impl Print, table: &[u8], batch: &[u8]) -> io::Result<()> {
     match batch::check(table, batch) {
-        BatchChecked::Good => say(
+        Ok(()) => say(
             rt,
             b"good batch: messages end to end, and a row for each, in order\n",
         ),
-        BatchChecked::Bad { why } => say_fault(rt, why),
+        Err(why) => say_fault(rt, why),
     }
 }
 
@@ -104,7 +104,7 @@ fn show(
     rt: &impl Print,
     table: &[u8],
     batch: &[u8],
-    found: BatchFound,
+    found: Result<Part, Fault>,
     from: usize,
     len: usize,
 ) -> io::Result<()> {
@@ -131,8 +131,8 @@ fn last(rt: &(impl Env + Print), table: &[u8], batch: &[u8]) -> io::Result<()> {
     };
     let found = batch::last(table, batch, key);
     match found {
-        BatchFound::Part { from, len } => show(rt, table, batch, found, from, len),
-        BatchFound::Refused { why } => say_fault(rt, why),
+        Ok(Part { from, len }) => show(rt, table, batch, found, from, len),
+        Err(why) => say_fault(rt, why),
     }
 }
 
@@ -141,8 +141,8 @@ fn last(rt: &(impl Env + Print), table: &[u8], batch: &[u8]) -> io::Result<()> {
 fn compact(rt: &impl Runtime, table: &[u8], batch: &[u8]) -> io::Result<()> {
     let mut out = files::largest_room();
     match batch::compact(table, batch, &mut out) {
-        BatchWritten::Done { place } => files::save(rt, 5, front(&out, place)),
-        BatchWritten::Refused { why } => say_fault(rt, why),
+        Ok(place) => files::save(rt, 5, front(&out, place)),
+        Err(why) => say_fault(rt, why),
     }
 }
 

@@ -1,11 +1,13 @@
 // Two messages side by side: where they differ.
+use desk::NotCompared;
+use wire::{Reached, Stopped};
 use crate::files;
-use desk::CompareAnswer;
+use CompareAnswer;
 use listing::changes;
 use say::say;
 use std::io;
 use std::rt::Runtime;
-use wire::ReadAnswer;
+use ReadAnswer;
 
 // The list has room for 16,384 pairs: no two messages of so many entries have more.
 const PAIRS: usize = 2 * 16384;
@@ -14,14 +16,14 @@ fn pairs_room() -> [u64; PAIRS] {
     [0; PAIRS]
 }
 
-fn made_by(read: ReadAnswer) -> usize {
+fn made_by(read: Result<Reached, Stopped>) -> usize {
     match read {
-        ReadAnswer::Done { place: _, count } => count,
-        ReadAnswer::Refused {
+        Ok(Reached { place: _, count }) => count,
+        Err(Stopped {
             why: _,
             place: _,
             count,
-        } => count,
+        }) => count,
     }
 }
 
@@ -51,17 +53,17 @@ fn show_changes(
 fn compare(rt: &impl Print, table: &[u8], one: &[u8], other: &[u8], aloud: bool) -> io::Result<()> {
     let mut list = pairs_room();
     match compare::compare(table, one, other, &mut list) {
-        CompareAnswer::Done { count } => {
+        Ok(count) => {
             if aloud {
                 return show_changes(rt, table, one, other, &list, count);
             }
             changes::say_pairs(rt, &list, count)
         }
-        CompareAnswer::Short => say(rt, b"refused: 15, the list is too short for the pairs\n"),
-        CompareAnswer::Refused { why, place } => {
+        Err(NotCompared::Short) => say(rt, b"refused: 15, the list is too short for the pairs\n"),
+        Err(NotCompared::Refused { why, place }) => {
             changes::say_refused(rt, b"the first message", why, place)
         }
-        CompareAnswer::OtherRefused { why, place } => {
+        Err(NotCompared::OtherRefused { why, place }) => {
             changes::say_refused(rt, b"the second message", why, place)
         }
     }

@@ -1,6 +1,7 @@
 // One item of a message, by a path in decimal.
+use desk::NotFound;
 use crate::decimal;
-use desk::FindAnswer;
+use FindAnswer;
 use say::say;
 use std::io;
 use std::rt::Env;
@@ -39,7 +40,7 @@ fn ask(table: &[u8], path: &[u64], depth: usize, message: &[u8]) -> FindAnswer {
     if depth <= path.len() {
         return find::find(table, &path[..depth], message);
     }
-    FindAnswer::NoItem
+    Err(NotFound::NoItem)
 }
 
 // Finds the item at the path that the command's words spell.

@@ -8,7 +8,7 @@ use say::{before, front, say, say_bytes, say_with};
 use std::io;
 use std::io::Read;
 use std::rt::Runtime;
-use wire::{FeedAnswer, WriteAnswer};
+use wire::{FeedAnswer, RefusedAt};
 
 // A frame's message, which ends before a place of the stream.
 fn say_frame(rt: &impl Print, fed: Fed, place: usize) -> io::Result<()> {
@@ -169,10 +169,10 @@ pub fn run(rt: &impl Runtime) -> io::Result<()> {
 fn save_frame(rt: &impl Runtime, message: &[u8]) -> io::Result<()> {
     let mut out = files::large_room();
     match framer::frame(message, &mut out) {
-        WriteAnswer::Refused { why, place } => {
+        Err(RefusedAt { why, place }) => {
             shown::say_refusal(rt, why, place, b"frame", files::LARGE)
         }
-        WriteAnswer::Done { place } => files::save(rt, 3, front(&out, place)),
+        Ok(place) => files::save(rt, 3, front(&out, place)),
     }
 }
 

@@ -1,20 +1,21 @@
 // A message as a row of CSV on standard output, and a row as a message in a file.
+use desk::NotRows;
 use crate::{files, shown};
-use desk::CsvAnswer;
+use CsvAnswer;
 use say::{front, say, say_with};
 use std::io;
 use std::rt::Runtime;
 
 // Why there is no row, or no message of one in so large a room.
-fn say_refused(rt: &impl Print, got: CsvAnswer, what: &[u8], room: usize) -> io::Result<()> {
+fn say_refused(rt: &impl Print, got: Result<usize, NotRows>, what: &[u8], room: usize) -> io::Result<()> {
     match got {
-        CsvAnswer::Done { place: _ } => Ok(()),
-        CsvAnswer::Refused { why, place } => shown::say_refusal(rt, why, place, what, room),
-        CsvAnswer::Unfit => say(
+        Ok(_) => Ok(()),
+        Err(NotRows::Refused { why, place }) => shown::say_refusal(rt, why, place, what, room),
+        Err(NotRows::Unfit) => say(
             rt,
             b"refused: 20, the table has no rows: its root is no struct of at most 1024 numbers, chars, texts and bytes\n",
         ),
-        CsvAnswer::NoRow { place } => say_with(
+        Err(NotRows::NoRow { place }) => say_with(
             rt,
             b"refused: 21, no row of this table goes on so, at byte #\n",
             place as u64,
@@ -27,7 +28,7 @@ pub fn export(rt: &impl Print, table: &[u8], message: &[u8]) -> io::Result<()> {
     let mut out = files::largest_room();
     let got = csv_rows::export(table, message, &mut out);
     match got {
-        CsvAnswer::Done { place } => say(rt, front(&out, place)),
+        Ok(place) => say(rt, front(&out, place)),
         _ => say_refused(rt, got, b"row", files::LARGEST),
     }
 }
@@ -37,7 +38,7 @@ fn save_message(rt: &impl Runtime, table: &[u8], row: &[u8]) -> io::Result<()> {
     let mut out = files::large_room();
     let got = csv_rows::import(table, row, &mut out);
     match got {
-        CsvAnswer::Done { place } => files::save(rt, 4, front(&out, place)),
+        Ok(place) => files::save(rt, 4, front(&out, place)),
         _ => say_refused(rt, got, b"message", files::LARGE),
     }
 }

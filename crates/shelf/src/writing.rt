@@ -5,14 +5,14 @@ use crate::files;
 use say::{front, say, say_why, say_with};
 use std::io;
 use std::rt::Runtime;
-use wire::{Item, WriteAnswer};
+use wire::RefusedAt;
 
 // The little-endian word that bytes begin with.
 fn first_word(bytes: &[u8]) -> u64
     requires { 8 ≤ length bytes.now }
 {
     let got = fixint::take64(bytes, false, false);
-    let Item::Took { own } = got else {
+    let Ok(own) = got else {
         return 0;
     };
     own.first
@@ -34,11 +34,11 @@ fn put_words(bytes: &[u8], words: &mut [u64]) {
 fn write(rt: &impl Runtime, table: &[u8], words: &[u64], pool: &[u8]) -> io::Result<()> {
     let mut out = files::large_room();
     match writer::write(table, words, pool, &mut out) {
-        WriteAnswer::Refused { why, place } => {
+        Err(RefusedAt { why, place }) => {
             say(rt, b"refused: ")?;
             say_why(rt, why, b", at place #; nothing is written\n", place)
         }
-        WriteAnswer::Done { place } => files::save(rt, 5, front(&out, place)),
+        Ok(place) => files::save(rt, 5, front(&out, place)),
     }
 }
 

@@ -10,20 +10,20 @@ ghost use Rattle.messages.specs.Fields.{keys_of, KeyedBy};
 ghost use Rattle.starts.specs.Window.{Window, Marks, Stands, AllStand, parts_in, Judges};
 
 use desk::Row;
-use messages::{Fields, NextMessage};
+use messages::{Fields, Message};
 use wire::Layout;
+
+// How far starts are marked, and how many they are.
+#[derive(Clone, Copy)]
+pub struct Upto {
+    pub at: usize,
+    pub count: usize,
+}
 
 // A window's bytes, a bit a place: for a small batch, and for any other.
 const SMALL: usize = 4096;
 
 const LARGE: usize = 262144;
-
-// Up to where starts were marked, and how many messages stand in front of that; or a message that can't be read.
-#[derive(Clone, Copy)]
-pub enum Marked {
-    Upto { at: usize, count: usize },
-    Stopped,
-}
 
 // Marks the starts of the messages from a place on, up to the end of the window or of the bytes.
 pub fn mark(
@@ -34,7 +34,7 @@ pub fn mark(
     base: usize,
     many: usize,
     area: &mut [u8],
-) -> Marked
+) -> Option<Upto>
     requires keyed_by { KeyedBy table.now l f }
     requires starts { Starts (keys_of table.now l f) front.now many base }
     requires base_in_bounds { (base < length front.now) × (0 < length area.old) }
@@ -46,17 +46,17 @@ pub fn mark(
     while at < front.len() {
         let place = at - base;
         if area.len() <= place / 8 {
-            return Marked::Upto { at, count };
+            return Some(Upto { at, count });
         }
         let next = messages::next(table, l, f, &front[at..]);
-        let NextMessage::Message { key: _, len } = next else {
-            return Marked::Stopped;
+        let Ok(Message { key: _, len }) = next else {
+            return None;
         };
         bits::mark(area, place);
         at = at + len;
         count = count + 1;
     }
-    Marked::Upto { at, count }
+    Some(Upto { at, count })
 }
 
 // Whether a row that leads into a window stands at its message, and leads into the bytes at all.
@@ -133,7 +133,7 @@ fn by_windows(
     let mut count = 0;
     while base < front.len() {
         let marked = mark(table, l, f, front, base, count, area);
-        let Marked::Upto { at, count: many } = marked else {
+        let Some(Upto { at, count: many }) = marked else {
             return false;
         };
         if !all_stand(table, l, f, front, rows, base, at, area) {

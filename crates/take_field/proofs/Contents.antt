@@ -32,7 +32,7 @@ use Rattle.take_text.specs.declared.Quoted.{Quoted}
 use Rattle.take_text.specs.Marks.{Mark, before, within, behind, may_go_on, mark_step, marks, is_whole, Answers}
 use Rattle.put_content.specs.Undone.{undoubled}
 use Rattle.put_content.proofs.Undoing.{undone}
-use Rattle.take_field.specs.declared.Field.TheVariants.{Took, Stops}
+use Rattle.take_field.specs.Field.{Took, Stops}
 use Rattle.take_field.specs.Taking.{Takes, took, stops, TakesKind, quoted_kind}
 use Rattle.take_field.proofs.Numbers.{gone}
 

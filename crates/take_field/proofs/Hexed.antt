@@ -31,7 +31,7 @@ use Rattle.take_text.specs.declared.Quoted.{Quoted}
 use Rattle.take_hex.specs.Pairs.{is_hex, Pair, pair_step, counts, is_closed, Answers}
 use Rattle.take_hex.specs.Pairs as pair
 use Rattle.put_content.specs.Undone.{number_of, unhexed, IsHex, digit, letter, AreHex}
-use Rattle.take_field.specs.declared.Field.TheVariants.{Took, Stops}
+use Rattle.take_field.specs.Field.{Took, Stops}
 use Rattle.take_field.specs.Taking.{Takes, took, stops, TakesKind}
 use Rattle.take_field.proofs.Numbers.{gone}
 use Rattle.take_field.proofs.Contents.{inner, quoted-long}

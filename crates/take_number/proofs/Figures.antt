@@ -16,8 +16,8 @@ use Rattle.desk.specs.Csv.{minus}
 use Rattle.spellings.specs.Accept.{when, is_digit, Figure, nothing, minused, plus, under, another, first, figure_step, figure_value, numbers}
 use Rattle.spellings.specs.Exact.{neither, each, Beside}
 use Rattle.spellings.proofs.Numerals.{is_digit_lem}
-use Rattle.take_number.specs.declared.Number.{Number}
-use Rattle.take_number.specs.declared.Number.TheVariants.{Is, Stops}
+use Rattle.take_number.specs.Number.{Number}
+use Rattle.take_number.specs.Number.{Is, Stops}
 use Rattle.take_number.specs.Scans.{Ends, DigitAt, digit, no_digit, further_step, further, TakesNumber, takes, stops, TakesUnder, takes_under, stops_under}
 use Rattle.take_number.proofs.Scanning.{ends-here, ends_on, ends_as}
 

@@ -5,8 +5,8 @@ use Rattle.std.proofs.Math.Option.{Option, none, some}
 use Rattle.wire.specs.Tests.{both}
 use Rattle.wire.specs.Values.{number}
 use Rattle.spellings.specs.Accept.{Acceptor, when, is_digit, Figure, nothing, minused, figure_value, numbers, scan}
-use Rattle.take_number.specs.declared.Number.{Number}
-use Rattle.take_number.specs.declared.Number.TheVariants.{Is, Stops}
+use Rattle.take_number.specs.Number.{Number}
+use Rattle.take_number.specs.Number.{Is, Stops}
 
 -- from the state x at the place i it goes to the state y at the place j, and no further
 pub record Ends (A : Acceptor) (x : A.State) (s : List ℕ) (i : ℕ) (y : A.State) (j : ℕ) : Type 0 where

@@ -6,14 +6,20 @@ ghost use Rattle.wire.specs.Tests.{both};
 ghost use Rattle.desk.specs.Csv.{minus};
 ghost use Rattle.take_number.specs.Scans.{DigitAt, Ends, further, TakesNumber, TakesUnder};
 
-const LARGEST: u64 = 0xffff_ffff_ffff_ffff;
-
-// A number's word and the place behind it, or where the row stops being one.
+// A number that was read, and the place behind it.
 #[derive(Clone, Copy)]
-pub enum Number {
-    Is { word: u64, at: usize },
-    Stops { at: usize },
+pub struct Numeral {
+    pub word: u64,
+    pub at: usize,
 }
+
+// Where an input stops being a number.
+#[derive(Clone, Copy)]
+pub struct NoNumber {
+    pub at: usize,
+}
+
+const LARGEST: u64 = 0xffff_ffff_ffff_ffff;
 
 // A number's size and the place behind its digits.
 #[derive(Clone, Copy)]
@@ -86,29 +92,29 @@ fn take_digits(most: u64, first: u64, row: &[u8], from: usize) -> Digits
 }
 
 // A number below zero, behind its minus.
-fn take_under(below: u64, row: &[u8], at: usize) -> Number
+fn take_under(below: u64, row: &[u8], at: usize) -> Result<Numeral, NoNumber>
     requires { at ≤ length row.now }
     ensures { TakesUnder below row.now at result }
 {
     let d = digit(row, at);
     if d < 1 {
-        return Number::Stops { at };
+        return Err(NoNumber { at });
     }
     if 9 < d {
-        return Number::Stops { at };
+        return Err(NoNumber { at });
     }
     if below < d {
-        return Number::Stops { at };
+        return Err(NoNumber { at });
     }
     let got = take_digits(below, d, row, at + 1);
-    Number::Is {
+    Ok(Numeral {
         word: LARGEST - got.size + 1,
         at: got.at,
-    }
+    })
 }
 
 // A number from so many below zero to so many above it.
-pub fn take_number(below: u64, above: u64, row: &[u8], at: usize) -> Number
+pub fn take_number(below: u64, above: u64, row: &[u8], at: usize) -> Result<Numeral, NoNumber>
     requires { at ≤ length row.now }
     ensures { TakesNumber below above row.now at result }
 {
@@ -116,18 +122,18 @@ pub fn take_number(below: u64, above: u64, row: &[u8], at: usize) -> Number
         if 0 < below {
             return take_under(below, row, at + 1);
         }
-        return Number::Stops { at };
+        return Err(NoNumber { at });
     }
     let d = digit(row, at);
     if 9 < d {
-        return Number::Stops { at };
+        return Err(NoNumber { at });
     }
     if above < d {
-        return Number::Stops { at };
+        return Err(NoNumber { at });
     }
     let got = take_digits(above, d, row, at + 1);
-    Number::Is {
+    Ok(Numeral {
         word: got.size,
         at: got.at,
-    }
+    })
 }

@@ -28,12 +28,12 @@ use Rattle.put_number.proofs.Laying.{lays-puts, lays-both}
 use Rattle.output.specs.Bytes.{cap}
 use Rattle.output.proofs.Counting.{cap-small, cap-large, puts_none}
 use Rattle.take_number.specs.Scans.{Ends}
-use Rattle.take_field.specs.declared.Field.{Field}
+use Rattle.take_field.specs.Field.{Field}
 use Rattle.take_field.specs.declared.Field.TheVariants as field
 use Rattle.take_field.specs.Taking.{Takes, TakesKind}
 use Rattle.take_field.specs.Taking as taking
-use Rattle.take_row.specs.declared.Message.{Message}
-use Rattle.take_row.specs.declared.Message.TheVariants.{Stops}
+use Rattle.take_row.specs.Message.{Message}
+use Rattle.take_row.specs.Message.{Stops}
 use Rattle.take_row.specs.Messages.{Taken, gives, stops_at, taken_of, taken_by, LaysMessage, laid, refused, is_at, Separated, begins, behind_comma, no_comma, Ended, ends, no_return, no_feed, goes_on}
 
 -- ---- bytes

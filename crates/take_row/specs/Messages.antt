@@ -6,11 +6,11 @@ use Rattle.wire.specs.Tests.{both}
 use Rattle.desk.specs.Csv.{comma, Column, styles_of, message_of}
 use Rattle.spellings.specs.Accept.{Parsed, took, stopped, parse}
 use Rattle.put_number.specs.Lays.{Lays}
-use Rattle.take_field.specs.declared.Field.{Field}
-use Rattle.take_field.specs.declared.Field.TheVariants.{Took}
+use Rattle.take_field.specs.Field.{Field}
+use Rattle.take_field.specs.Field.{Took}
 use Rattle.take_field.specs.declared.Field.TheVariants as field
-use Rattle.take_row.specs.declared.Message.{Message}
-use Rattle.take_row.specs.declared.Message.TheVariants.{Laid, Stops}
+use Rattle.take_row.specs.Message.{Message}
+use Rattle.take_row.specs.Message.{Laid, Stops}
 
 -- the bytes of a message, or where the input stops being a row
 pub data Taken : Type 0 where

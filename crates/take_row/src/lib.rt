@@ -7,14 +7,20 @@ ghost use Rattle.desk.specs.Csv.{columns};
 ghost use Rattle.columns.specs.Columns.{field_shapes, Rowed};
 ghost use Rattle.take_row.specs.Messages.{taken_by, is_at, LaysMessage, Separated, Ended};
 
-use take_field::Field;
+use take_field::{NoField, Took};
+use Field;
 use wire::Layout;
 
-// So many bytes are laid; or where the row stops.
+// The length of a row's message.
 #[derive(Clone, Copy)]
-pub enum Message {
-    Laid { len: usize },
-    Stops { at: usize },
+pub struct Laid {
+    pub len: usize,
+}
+
+// Where an input stops being a row.
+#[derive(Clone, Copy)]
+pub struct NoRow {
+    pub at: usize,
 }
 
 // Whether a byte stands at a place.
@@ -28,37 +34,37 @@ fn is_at(row: &[u8], at: usize, b: u8) -> bool
 }
 
 // The place where the next field begins: behind its comma, where it isn't the first.
-fn start_of(first: bool, row: &[u8], at: usize) -> Field
+fn start_of(first: bool, row: &[u8], at: usize) -> Result<Took, NoField>
     requires { at ≤ length row.now }
     ensures { Separated first row.now at result }
 {
     if first {
-        return Field::Took { at, len: 0 };
+        return Ok(Took { at, len: 0 });
     }
     if is_at(row, at, b',') {
         let next = at + 1;
-        return Field::Took { at: next, len: 0 };
+        return Ok(Took { at: next, len: 0 });
     }
-    Field::Stops { at }
+    Err(NoField { at })
 }
 
 // The end of the row, and nothing more.
-fn end_of(row: &[u8], at: usize, len: usize) -> Message
+fn end_of(row: &[u8], at: usize, len: usize) -> Result<Laid, NoRow>
     requires { at ≤ length row.now }
     ensures { Ended row.now at len result }
 {
     if !is_at(row, at, b'\r') {
-        return Message::Stops { at };
+        return Err(NoRow { at });
     }
     let next = at + 1;
     if !is_at(row, next, b'\n') {
-        return Message::Stops { at: next };
+        return Err(NoRow { at: next });
     }
     let behind = next + 1;
     if behind < row.len() {
-        return Message::Stops { at: behind };
+        return Err(NoRow { at: behind });
     }
-    Message::Laid { len }
+    Ok(Laid { len })
 }
 
 // The message of a row whose fields' numbers, so many, stand at `from` in the table.
@@ -69,7 +75,7 @@ pub fn take_row(
     width: usize,
     row: &[u8],
     out: &mut [u8],
-) -> Message
+) -> Result<Laid, NoRow>
     requires { Rowed table.now l from width }
     ensures { LaysMessage (taken_by (columns (field_shapes table.now l from width)) row.now) 0 out.old result out.new }
 {
@@ -83,16 +89,16 @@ pub fn take_row(
         let number = table::kind_at(table, l, c);
         let begun = start_of(first, row, at);
         match begun {
-            Field::Stops { at: end } => {
-                return Message::Stops { at: end };
+            Err(NoField { at: end }) => {
+                return Err(NoRow { at: end });
             }
-            Field::Took { at: start, len: _ } => {
+            Ok(Took { at: start, len: _ }) => {
                 let got = take_field::take_field(number, row, start, out, to);
                 match got {
-                    Field::Stops { at: end } => {
-                        return Message::Stops { at: end };
+                    Err(NoField { at: end }) => {
+                        return Err(NoRow { at: end });
                     }
-                    Field::Took { at: next, len } => {
+                    Ok(Took { at: next, len }) => {
                         at = next;
                         to = len;
                         first = false;

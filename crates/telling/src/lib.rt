@@ -8,43 +8,45 @@ ghost use Rattle.desk.specs.Csv.{csv_says};
 ghost use Rattle.telling.specs.Told.{Told, Counted, CountedOpen, ToldAsked, Took, Found, ToldCompared, ToldPart};
 ghost use Rattle.telling.specs.Marks.{waits, mark_after};
 
-use desk::{
-    BatchChecked, BatchFound, BatchWritten, CompareAnswer, CsvAnswer, Fault, FindAnswer, OpenAnswer,
-};
-use wire::{AskAnswer, Checked, FeedAnswer, ReadAnswer, TakeAnswer, WriteAnswer};
+use desk::{Fault, Found, NotCompared, NotFound, NotOpened, NotRows, Part};
+use wire::{FeedAnswer, Layout, NotAsked, Reached, RefusedAt, Stopped, Taken};
 
-pub fn checked(got: Checked, place: &mut u64) -> u64
+pub fn checked(got: Result<Layout, RefusedAt>, place: &mut u64) -> u64
     ensures { Told (check_says got) result place.new }
 {
     match got {
-        Checked::Good { layout: _ } => {
+        Ok(_) => {
             *place = 0;
             0
         }
-        Checked::Bad { why, place: node } => {
+        Err(RefusedAt { why, place: node }) => {
             *place = node as u64;
             numbers::refusal(why)
         }
     }
 }
 
-pub fn reading(got: ReadAnswer, place: &mut u64, count: &mut u64) -> u64
+pub fn reading(got: Result<Reached, Stopped>, place: &mut u64, count: &mut u64) -> u64
     ensures { Counted got result place.new count.new }
 {
     match got {
-        ReadAnswer::Done {
-            place: end,
-            count: made,
-        } => {
+        Ok(
+            Reached {
+                place: end,
+                count: made,
+            },
+        ) => {
             *place = end as u64;
             *count = made as u64;
             0
         }
-        ReadAnswer::Refused {
-            why,
-            place: at,
-            count: made,
-        } => {
+        Err(
+            Stopped {
+                why,
+                place: at,
+                count: made,
+            },
+        ) => {
             *place = at as u64;
             *count = made as u64;
             numbers::refusal(why)
@@ -53,28 +55,32 @@ pub fn reading(got: ReadAnswer, place: &mut u64, count: &mut u64) -> u64
 }
 
 // A reading with a list of open items.
-pub fn opened(got: OpenAnswer, place: &mut u64, count: &mut u64) -> u64
+pub fn opened(got: Result<Reached, NotOpened>, place: &mut u64, count: &mut u64) -> u64
     ensures { CountedOpen got result place.new count.new }
 {
     match got {
-        OpenAnswer::Done {
-            place: end,
-            count: made,
-        } => {
+        Ok(
+            Reached {
+                place: end,
+                count: made,
+            },
+        ) => {
             *place = end as u64;
             *count = made as u64;
             0
         }
-        OpenAnswer::Refused {
-            why,
-            place: at,
-            count: made,
-        } => {
+        Err(
+            NotOpened::Refused {
+                why,
+                place: at,
+                count: made,
+            },
+        ) => {
             *place = at as u64;
             *count = made as u64;
             numbers::refusal(why)
         }
-        OpenAnswer::ShortList => {
+        Err(NotOpened::ShortList) => {
             *place = 0;
             *count = 0;
             numbers::SHORT_OPEN
@@ -82,15 +88,15 @@ pub fn opened(got: OpenAnswer, place: &mut u64, count: &mut u64) -> u64
     }
 }
 
-pub fn written(got: WriteAnswer, place: &mut u64) -> u64
+pub fn written(got: Result<usize, RefusedAt>, place: &mut u64) -> u64
     ensures { Told (write_says got) result place.new }
 {
     match got {
-        WriteAnswer::Done { place: end } => {
+        Ok(end) => {
             *place = end as u64;
             0
         }
-        WriteAnswer::Refused { why, place: at } => {
+        Err(RefusedAt { why, place: at }) => {
             *place = at as u64;
             numbers::refusal(why)
         }
@@ -98,27 +104,29 @@ pub fn written(got: WriteAnswer, place: &mut u64) -> u64
 }
 
 // The append question: which table is refused, and whether the answer is yes.
-pub fn asked(got: AskAnswer, place: &mut u64, which: &mut u64, yes: &mut u64) -> u64
+pub fn asked(got: Result<bool, NotAsked>, place: &mut u64, which: &mut u64, yes: &mut u64) -> u64
     ensures { ToldAsked got result place.new which.new yes.new }
 {
     match got {
-        AskAnswer::Says { yes: says } => {
+        Ok(says) => {
             *place = 0;
             *which = 0;
             *yes = numbers::yes(says);
             0
         }
-        AskAnswer::Refused {
-            side,
-            why,
-            place: node,
-        } => {
+        Err(
+            NotAsked::Table {
+                side,
+                why,
+                place: node,
+            },
+        ) => {
             *place = node as u64;
             *which = numbers::side(side);
             *yes = 0;
             numbers::refusal(why)
         }
-        AskAnswer::ShortArea => {
+        Err(NotAsked::ShortArea) => {
             *place = 0;
             *which = 0;
             *yes = 0;
@@ -152,7 +160,7 @@ pub fn mark_after(answer: FeedAnswer, before: u64, waiting: bool) -> u64
 
 // One item's words and where it stands; a refusal keeps the place.
 pub fn taken(
-    got: TakeAnswer,
+    got: Result<Taken, RefusedAt>,
     place: &mut u64,
     first: &mut u64,
     second: &mut u64,
@@ -161,19 +169,21 @@ pub fn taken(
     ensures { Took got place.old result place.new first.new second.new at.new }
 {
     match got {
-        TakeAnswer::Done {
-            first: a,
-            second: b,
-            at: here,
-            place: behind,
-        } => {
+        Ok(
+            Taken {
+                first: a,
+                second: b,
+                at: here,
+                place: behind,
+            },
+        ) => {
             *place = behind as u64;
             *first = a;
             *second = b;
             *at = here as u64;
             0
         }
-        TakeAnswer::Refused { why, place: _ } => {
+        Err(RefusedAt { why, place: _ }) => {
             *first = 0;
             *second = 0;
             *at = 0;
@@ -182,54 +192,66 @@ pub fn taken(
     }
 }
 
-pub fn found(got: FindAnswer, place: &mut u64, first: &mut u64, second: &mut u64) -> u64
+pub fn found(
+    got: Result<Found, NotFound>,
+    place: &mut u64,
+    first: &mut u64,
+    second: &mut u64,
+) -> u64
     ensures { Found got result place.new first.new second.new }
 {
     *first = 0;
     *second = 0;
     match got {
-        FindAnswer::Found {
-            first: x,
-            second: y,
-            place: at,
-        } => {
+        Ok(
+            Found {
+                first: x,
+                second: y,
+                place: at,
+            },
+        ) => {
             *place = at as u64;
             *first = x;
             *second = y;
             0
         }
-        FindAnswer::NoItem => {
+        Err(NotFound::NoItem) => {
             *place = 0;
             numbers::NO_ITEM
         }
-        FindAnswer::Absent { place: at } => {
+        Err(NotFound::Absent { place: at }) => {
             *place = at as u64;
             numbers::ABSENT
         }
-        FindAnswer::Refused { why, place: at } => {
+        Err(NotFound::Refused { why, place: at }) => {
             *place = at as u64;
             numbers::refusal(why)
         }
     }
 }
 
-pub fn compared(got: CompareAnswer, place: &mut u64, which: &mut u64, count: &mut u64) -> u64
+pub fn compared(
+    got: Result<usize, NotCompared>,
+    place: &mut u64,
+    which: &mut u64,
+    count: &mut u64,
+) -> u64
     ensures { ToldCompared got result place.new which.new count.new }
 {
     *place = 0;
     *which = 0;
     *count = 0;
     match got {
-        CompareAnswer::Done { count: pairs } => {
+        Ok(pairs) => {
             *count = pairs as u64;
             0
         }
-        CompareAnswer::Short => numbers::SHORT_LIST,
-        CompareAnswer::Refused { why, place: at } => {
+        Err(NotCompared::Short) => numbers::SHORT_LIST,
+        Err(NotCompared::Refused { why, place: at }) => {
             *place = at as u64;
             numbers::refusal(why)
         }
-        CompareAnswer::OtherRefused { why, place: at } => {
+        Err(NotCompared::OtherRefused { why, place: at }) => {
             *place = at as u64;
             *which = 1;
             numbers::refusal(why)
@@ -261,68 +283,70 @@ pub fn fault(got: Fault, place: &mut u64) -> u64
     }
 }
 
-pub fn batch_written(got: BatchWritten, place: &mut u64) -> u64
+pub fn batch_written(got: Result<usize, Fault>, place: &mut u64) -> u64
     ensures { Told (written_says got) result place.new }
 {
     match got {
-        BatchWritten::Done { place: end } => {
+        Ok(end) => {
             *place = end as u64;
             0
         }
-        BatchWritten::Refused { why } => fault(why, place),
+        Err(why) => fault(why, place),
     }
 }
 
-pub fn batch_checked(got: BatchChecked, place: &mut u64) -> u64
+pub fn batch_checked(got: Result<(), Fault>, place: &mut u64) -> u64
     ensures { Told (checked_says got) result place.new }
 {
     match got {
-        BatchChecked::Good => {
+        Ok(()) => {
             *place = 0;
             0
         }
-        BatchChecked::Bad { why } => fault(why, place),
+        Err(why) => fault(why, place),
     }
 }
 
 // The part of a batch that a search found.
-pub fn part(got: BatchFound, place: &mut u64, from: &mut u64, len: &mut u64) -> u64
+pub fn part(got: Result<Part, Fault>, place: &mut u64, from: &mut u64, len: &mut u64) -> u64
     ensures { ToldPart got result place.new from.new len.new }
 {
     *from = 0;
     *len = 0;
     match got {
-        BatchFound::Part {
-            from: start,
-            len: size,
-        } => {
+        Ok(
+            Part {
+                from: start,
+                len: size,
+            },
+        ) => {
             *place = 0;
             *from = start as u64;
             *len = size as u64;
             0
         }
-        BatchFound::Refused { why } => fault(why, place),
+        Err(why) => fault(why, place),
     }
 }
 
 // An export or an import.
-pub fn row(got: CsvAnswer, place: &mut u64) -> u64
+pub fn row(got: Result<usize, NotRows>, place: &mut u64) -> u64
     ensures { Told (csv_says got) result place.new }
 {
     match got {
-        CsvAnswer::Done { place: end } => {
+        Ok(end) => {
             *place = end as u64;
             0
         }
-        CsvAnswer::Refused { why, place: at } => {
+        Err(NotRows::Refused { why, place: at }) => {
             *place = at as u64;
             numbers::refusal(why)
         }
-        CsvAnswer::Unfit => {
+        Err(NotRows::Unfit) => {
             *place = 0;
             numbers::NO_COLUMNS
         }
-        CsvAnswer::NoRow { place: at } => {
+        Err(NotRows::NoRow { place: at }) => {
             *place = at as u64;
             numbers::NO_ROW
         }

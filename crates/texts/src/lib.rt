@@ -8,7 +8,7 @@ ghost use Rattle.wire.specs.Shape.{char, pooled};
 ghost use Rattle.wire.specs.Reading.{char_of, is_content, content_of, read_plain, head};
 ghost use Rattle.texts.specs.Contents.{content_if};
 
-use wire::{Item, Own, Refusal};
+use wire::{Own, Refusal};
 
 // How many bytes a char has.
 fn char_size(c: u64) -> usize
@@ -37,50 +37,42 @@ fn is_shortest(counted: bool, n: usize, c: u64) -> bool
 }
 
 // A char behind the count of its bytes.
-fn char_of(part: &[u8], count: Own) -> Item
+fn char_of(part: &[u8], count: Own) -> Result<Own, Refusal>
     requires { count.used + length part.now < 2 ^ 64 }
     ensures { result ≡ char_of count part.now }
 {
     if 4 < count.first {
-        return Item::Refused {
-            why: Refusal::BadChar,
-        };
+        return Err(Refusal::BadChar);
     }
     let n = count.first as usize;
     if part.len() < n {
-        return Item::Refused { why: Refusal::End };
+        return Err(Refusal::End);
     }
     if n == 0 {
-        return Item::Refused {
-            why: Refusal::BadChar,
-        };
+        return Err(Refusal::BadChar);
     }
     let bytes = &part[..n];
     let ok = utf8::is_text(bytes);
     if !ok {
-        return Item::Refused {
-            why: Refusal::BadChar,
-        };
+        return Err(Refusal::BadChar);
     }
     let first = utf8::first_char(bytes);
     let shortest = is_shortest(count.shortest, n, first);
     let used = count.used + n;
-    Item::Took {
-        own: Own {
-            first,
-            second: 0,
-            used,
-            shortest,
-        },
-    }
+    Ok(Own {
+        first,
+        second: 0,
+        used,
+        shortest,
+    })
 }
 
 // The char at the start of `part`.
-pub fn take_char(part: &[u8]) -> Item
+pub fn take_char(part: &[u8]) -> Result<Own, Refusal>
     ensures { result ≡ read_plain char part.now }
 {
     let got = varint::take(part, varint::U64::MOST, varint::U64::LAST);
-    let Item::Took { own } = got else {
+    let Ok(own) = got else {
         return got;
     };
     let used = own.used;
@@ -98,37 +90,33 @@ pub fn is_content(part: &[u8], text: bool) -> bool
 }
 
 // A text or bytes behind their count. The offset is counted from the count's first byte.
-fn content_of(part: &[u8], count: Own, text: bool) -> Item
+fn content_of(part: &[u8], count: Own, text: bool) -> Result<Own, Refusal>
     requires { count.used + length part.now < 2 ^ 64 }
     ensures { result ≡ content_of (content_if text) 0 count part.now }
 {
     if (part.len() as u64) < count.first {
-        return Item::Refused { why: Refusal::End };
+        return Err(Refusal::End);
     }
     let n = count.first as usize;
     let end = count.used + n;
     let ok = is_content(&part[..n], text);
     if !ok {
-        return Item::Refused {
-            why: Refusal::BadUtf8,
-        };
+        return Err(Refusal::BadUtf8);
     }
-    Item::Took {
-        own: Own {
-            first: count.used as u64,
-            second: count.first,
-            used: end,
-            shortest: count.shortest,
-        },
-    }
+    Ok(Own {
+        first: count.used as u64,
+        second: count.first,
+        used: end,
+        shortest: count.shortest,
+    })
 }
 
 // The text, or the bytes, at the start of `part`, from which the offset is counted.
-pub fn take_content(part: &[u8], text: bool) -> Item
+pub fn take_content(part: &[u8], text: bool) -> Result<Own, Refusal>
     ensures { result ≡ head (pooled (content_if text)) 0 0 part.now }
 {
     let got = varint::take(part, varint::U64::MOST, varint::U64::LAST);
-    let Item::Took { own } = got else {
+    let Ok(own) = got else {
         return got;
     };
     let used = own.used;

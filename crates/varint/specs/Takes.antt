@@ -3,8 +3,8 @@
 use Rattle.std.specs.Prelude.{◌≡◌, List, Bool, true, ℕ, ◌-◌, get_or, ltb, leb, eqb}
 use Rattle.wire.specs.declared.Refusal.TheVariants.{BadVarint}
 use Rattle.wire.specs.declared.Own.{Own}
-use Rattle.wire.specs.declared.Item.{Item}
-use Rattle.wire.specs.declared.Item.TheVariants.{Took, Refused}
+use Rattle.wire.specs.Item.{Item}
+use Rattle.wire.specs.Item.{Took, Refused}
 use Rattle.wire.specs.Tests.{pick, both}
 use Rattle.wire.specs.Shape.{Width}
 use Rattle.wire.specs.Numbers.{most, last, varint_f, varint}

@@ -7,7 +7,7 @@ ghost use Rattle.wire.specs.Numbers.{varint, shortest};
 ghost use Rattle.varint.specs.Takes.{limit_of, takes, ends_short};
 ghost use Rattle.varint.specs.Put.{Put};
 
-use wire::{Item, Own, Refusal};
+use wire::{Own, Refusal};
 
 // Each width owns two constants: the most bytes, and the largest byte that may stand last there.
 #[derive(Clone, Copy)]
@@ -60,13 +60,11 @@ fn is_shortest(used: usize, b: u64) -> bool
 
 // A varint of at most `most` bytes at the start of `part`, of which the last allowed is at most `last`. At a width's
 // constants the compiler folds the test: a caller that must be fast names them here.
-pub fn take(part: &[u8], most: usize, last: u64) -> Item
+pub fn take(part: &[u8], most: usize, last: u64) -> Result<Own, Refusal>
     ensures { result ≡ takes most last part.now }
 {
     if limit(most) <= last {
-        return Item::Refused {
-            why: Refusal::BadVarint,
-        };
+        return Err(Refusal::BadVarint);
     }
     let mut value: u64 = 0;
     let mut scale: u64 = 1;
@@ -78,45 +76,39 @@ pub fn take(part: &[u8], most: usize, last: u64) -> Item
             if b <= last {
                 let whole = value + scale * b;
                 let shortest = is_shortest(next, b);
-                return Item::Took {
-                    own: Own {
-                        first: whole,
-                        second: 0,
-                        used: next,
-                        shortest,
-                    },
-                };
+                return Ok(Own {
+                    first: whole,
+                    second: 0,
+                    used: next,
+                    shortest,
+                });
             }
-            return Item::Refused {
-                why: Refusal::BadVarint,
-            };
+            return Err(Refusal::BadVarint);
         }
         let sum = value + scale * (b % 128);
         if b < 128 {
             let shortest = is_shortest(next, b);
-            return Item::Took {
-                own: Own {
-                    first: sum,
-                    second: 0,
-                    used: next,
-                    shortest,
-                },
-            };
+            return Ok(Own {
+                first: sum,
+                second: 0,
+                used: next,
+                shortest,
+            });
         }
         value = sum;
         scale = scale * 128;
         i = next;
     }
-    Item::Refused { why: Refusal::End }
+    Err(Refusal::End)
 }
 
-pub fn take_u16(part: &[u8]) -> Item
+pub fn take_u16(part: &[u8]) -> Result<Own, Refusal>
     ensures { result ≡ varint w16 part.now }
 {
     take(part, U16::MOST, U16::LAST)
 }
 
-pub fn take_u32(part: &[u8]) -> Item
+pub fn take_u32(part: &[u8]) -> Result<Own, Refusal>
     ensures { result ≡ varint w32 part.now }
 {
     take(part, U32::MOST, U32::LAST)

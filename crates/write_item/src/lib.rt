@@ -342,13 +342,6 @@ pub fn put_leaf(
 
 // ---- a text or bytes, judged and put at once
 
-// So many bytes there are now, or that no value has the entry.
-#[derive(Clone, Copy)]
-pub enum Pooled {
-    Put { used: usize },
-    Misfit,
-}
-
 pub fn put_pooled(
     number: u8,
     first: u64,
@@ -356,20 +349,20 @@ pub fn put_pooled(
     pool: &[u8],
     out: &mut [u8],
     used: usize,
-) -> Pooled
+) -> Option<usize>
     requires { (12 ≤ number) × (number ≤ 13) }
     ensures { Pools number pool.now first second used out.old result out.new }
 {
     let ok = fits_part(first, second, pool, number == 12);
     if ok {
         let more = put_part(first, second, pool, out, used);
-        return Pooled::Put { used: more };
+        return Some(more);
     }
-    Pooled::Misfit
+    None
 }
 
 // The same, with no place for any byte: it is judged, and its bytes are counted.
-pub fn measure_pooled(number: u8, first: u64, second: u64, pool: &[u8]) -> Pooled
+pub fn measure_pooled(number: u8, first: u64, second: u64, pool: &[u8]) -> Option<usize>
     requires { (12 ≤ number) × (number ≤ 13) }
     ensures { Pools number pool.now first second 0 [] result [] }
 {
@@ -377,9 +370,9 @@ pub fn measure_pooled(number: u8, first: u64, second: u64, pool: &[u8]) -> Poole
     if fits {
         let size = varint::size(second);
         let used = output::add(size, second as usize);
-        return Pooled::Put { used };
+        return Some(used);
     }
-    Pooled::Misfit
+    None
 }
 
 // ---- an integer that has its places

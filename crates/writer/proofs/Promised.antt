@@ -14,9 +14,9 @@ use borrow.Author.Tests.{le-leb, lt-leb}
 use Rattle.wire.specs.declared.Refusal.{Refusal}
 use Rattle.wire.specs.declared.Refusal.TheVariants.{Values, Full}
 use Rattle.wire.specs.declared.Layout.{Layout}
-use Rattle.wire.specs.declared.Checked.TheVariants.{Good, Bad}
-use Rattle.wire.specs.declared.WriteAnswer.{WriteAnswer}
-use Rattle.wire.specs.declared.WriteAnswer.TheVariants.{Done, Refused}
+use Rattle.wire.specs.Checked.{Good, Bad}
+use Rattle.wire.specs.WriteAnswer.{WriteAnswer}
+use Rattle.wire.specs.WriteAnswer.{Done, Refused}
 use Rattle.wire.specs.Tests.{pick, given}
 use Rattle.wire.specs.Table.{check, shape_of}
 use Rattle.wire.specs.Writing.{Wrote, wrote, misfit, wrote_after, writing, write}
@@ -25,7 +25,7 @@ use Rattle.laws.specs.Answered.{Writes}
 use Rattle.table.specs.Parts.{row_step}
 use Rattle.output.specs.Bytes.{cap, Puts}
 use Rattle.output.proofs.Counting.{cap-above, cap-within}
-use Rattle.write_list.specs.declared.Put.{Put}
+use Rattle.write_list.specs.Put.{Put}
 use Rattle.write_list.specs.declared.Put.TheVariants as put
 use Rattle.write_list.specs.declared.Ahead.{Ahead}
 use Rattle.write_list.specs.Steps.{entries, Sure, Going, GivesBy, Gives, Reaches}

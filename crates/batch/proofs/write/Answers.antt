@@ -6,16 +6,16 @@ use Rattle.batch.proofs.Writing.{write-table, write-unfit, fitting-of, write-all
 use Rattle.batch.proofs.write.Goals as goal
 
 pub fields_of-found-requires : goal.fields_of-found-requires
-fields_of-found-requires c = good-table _ _ (sym c.check-checked.ensures ∙ c.in-Good.is)
+fields_of-found-requires c = good-table _ _ (sym c.check-checked.ensures ∙ c.in-Ok.is)
 
 pub returns-in_default : goal.returns-in_default
-returns-in_default c = write-unfit _ _ _ _ _ c.check-checked.ensures c.in-Good.is c.fields_of-found.ensures c.in_default.is
+returns-in_default c = write-unfit _ _ _ _ _ c.check-checked.ensures c.in-Ok.is c.fields_of-found.ensures c.in_default.is
 
 pub write_by-requires : goal.write_by-requires
-write_by-requires c = (fitting-of c.fields_of-found.ensures c.in-At.is)
+write_by-requires c = (fitting-of c.fields_of-found.ensures c.in-Some.is)
 
-pub returns-in-Bad : goal.returns-in-Bad
-returns-in-Bad c = write-table _ _ _ _ _ c.check-checked.ensures c.in-Bad.is
+pub returns-in-Err : goal.returns-in-Err
+returns-in-Err c = write-table _ _ _ _ _ c.check-checked.ensures c.in-Err.is
 
-pub returns-in-At : goal.returns-in-At
-returns-in-At c = write-all _ _ _ _ _ c.check-checked.ensures c.in-Good.is (fitting-of c.fields_of-found.ensures c.in-At.is) c.write_by.ensures
+pub returns-in-Some : goal.returns-in-Some
+returns-in-Some c = write-all _ _ _ _ _ c.check-checked.ensures c.in-Ok.is (fitting-of c.fields_of-found.ensures c.in-Some.is) c.write_by.ensures

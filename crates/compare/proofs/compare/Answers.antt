@@ -5,10 +5,10 @@ use Rattle.compare.proofs.Promised.{bad-compares}
 use Rattle.compare.proofs.compare.Goals as goal
 
 pub compare_good-requires : goal.compare_good-requires
-compare_good-requires c = sym c.check-checked.ensures ∙ c.in-Good.is
+compare_good-requires c = sym c.check-checked.ensures ∙ c.in-Ok.is
 
-pub returns-in-Bad : goal.returns-in-Bad
-returns-in-Bad c = bad-compares _ _ _ _ (sym c.check-checked.ensures ∙ c.in-Bad.is)
+pub returns-in-Err : goal.returns-in-Err
+returns-in-Err c = bad-compares _ _ _ _ (sym c.check-checked.ensures ∙ c.in-Err.is)
 
-pub returns-in-Good : goal.returns-in-Good
-returns-in-Good c = c.compare_good.ensures
+pub returns-in-Ok : goal.returns-in-Ok
+returns-in-Ok c = c.compare_good.ensures

@@ -6,16 +6,16 @@ use Rattle.csv_rows.proofs.Answers.{no_fields_lem, some-fields, export-bad, expo
 use Rattle.csv_rows.proofs.export.Goals as goal
 
 pub find-found-requires : goal.find-found-requires
-find-found-requires c = good-table _ _ (sym c.check-checked.ensures ∙ c.in-Good.is)
+find-found-requires c = good-table _ _ (sym c.check-checked.ensures ∙ c.in-Ok.is)
 
 pub export_row-requires : goal.export_row-requires
-export_row-requires c = (some-fields c.find-found.ensures c.in-Fields.is).rowed
+export_row-requires c = (some-fields c.find-found.ensures c.in-Some.is).rowed
 
-pub returns-in-Bad : goal.returns-in-Bad
-returns-in-Bad c = export-bad _ _ _ (sym c.check-checked.ensures ∙ c.in-Bad.is)
+pub returns-in-Err : goal.returns-in-Err
+returns-in-Err c = export-bad _ _ _ (sym c.check-checked.ensures ∙ c.in-Err.is)
 
-pub returns-in-Unfit : goal.returns-in-Unfit
-returns-in-Unfit c = export-unfit _ _ _ (sym c.check-checked.ensures ∙ c.in-Good.is) (no_fields_lem c.find-found.ensures c.in-Unfit.is)
+pub returns-in-None : goal.returns-in-None
+returns-in-None c = export-unfit _ _ _ (sym c.check-checked.ensures ∙ c.in-Ok.is) (no_fields_lem c.find-found.ensures c.in-None.is)
 
-pub returns-in-Fields : goal.returns-in-Fields
-returns-in-Fields c = export_row _ _ _ (sym c.check-checked.ensures ∙ c.in-Good.is) c.find-found.ensures c.in-Fields.is c.export_row.ensures
+pub returns-in-Some : goal.returns-in-Some
+returns-in-Some c = export_row _ _ _ (sym c.check-checked.ensures ∙ c.in-Ok.is) c.find-found.ensures c.in-Some.is c.export_row.ensures

@@ -3,8 +3,8 @@
 use mathlib.Core.Path.{sym}
 use Rattle.leaf.proofs.anew.Goals as goal
 
-pub returns-in-Refused : goal.returns-in-Refused
-returns-in-Refused c = sym c.in-Refused.is
+pub returns-in-Err : goal.returns-in-Err
+returns-in-Err c = sym c.in-Err.is
 
-pub returns-in-Took : goal.returns-in-Took
-returns-in-Took c = sym c.in-Took.is
+pub returns-in-Ok : goal.returns-in-Ok
+returns-in-Ok c = sym c.in-Ok.is

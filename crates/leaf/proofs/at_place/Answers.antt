@@ -11,7 +11,7 @@ returns-in_default c = kept (λ a. c.args.place + a) refl c.in_default.is
 
 pub overflow_add-offset : goal.overflow_add-offset
 unfolding Within
-overflow_add-offset c = record { fits = rw c.in-Took.is at c.requires }
+overflow_add-offset c = record { fits = rw c.in-Ok.is at c.requires }
 
 pub returns : goal.returns
-returns c = changed (λ a. c.args.place + a) refl c.in-Took.is refl
+returns c = changed (λ a. c.args.place + a) refl c.in-Ok.is refl

@@ -4,4 +4,4 @@ use mathlib.Core.Path.{sym}
 use Rattle.messages.proofs.anew.Goals as goal
 
 pub returns : goal.returns
-returns c = sym c.in-Message.is
+returns c = sym c.in-Ok.is

@@ -10,25 +10,25 @@ pub skim-got-requires : goal.skim-got-requires
 skim-got-requires c = record { good_table = c.requires.good_table; falls = falls-fewer c.requires.good_table c.requires.falls; part_bound = c.requires.part_bound }
 
 pub returns-then-count-ge-ROOM : goal.returns-then-count-ge-ROOM
-returns-then-count-ge-ROOM c = full-there c.requires.good_table _ _ _ _ _ _ c.requires.falls c.requires.key (sym c.in-Done.is ∙ c.skim-got.ensures) c.if-count-ge-ROOM.true
+returns-then-count-ge-ROOM c = full-there c.requires.good_table _ _ _ _ _ _ c.requires.falls c.requires.key (sym c.in-Ok.is ∙ c.skim-got.ensures) c.if-count-ge-ROOM.true
 
 pub overflow_sub-used : goal.overflow_sub-used
-overflow_sub-used c = (skim-goes _ _ _ _ _ _ (sym c.in-Done.is ∙ c.skim-got.ensures)).0
+overflow_sub-used c = (skim-goes _ _ _ _ _ _ (sym c.in-Ok.is ∙ c.skim-got.ensures)).0
 
 pub slice_bounds-take_word-count : goal.slice_bounds-take_word-count
-slice_bounds-take_word-count c = (skim-goes _ _ _ _ _ _ (sym c.in-Done.is ∙ c.skim-got.ensures)).1
+slice_bounds-take_word-count c = (skim-goes _ _ _ _ _ _ (sym c.in-Ok.is ∙ c.skim-got.ensures)).1
 
 pub slice_bounds-take_word-start : goal.slice_bounds-take_word-start
-slice_bounds-take_word-start c = (skim-goes _ _ _ _ _ _ (sym c.in-Done.is ∙ c.skim-got.ensures)).1
+slice_bounds-take_word-start c = (skim-goes _ _ _ _ _ _ (sym c.in-Ok.is ∙ c.skim-got.ensures)).1
 
 pub overflow_add-behind : goal.overflow_add-behind
-overflow_add-behind c = omega (arith, c.requires.part_bound, ends_there c.requires.good_table _ _ _ _ _ _ c.requires.falls c.requires.key (sym c.in-Done.is ∙ c.skim-got.ensures) (sym c.take_word-item.ensures ∙ c.in-Took.is))
+overflow_add-behind c = omega (arith, c.requires.part_bound, ends_there c.requires.good_table _ _ _ _ _ _ c.requires.falls c.requires.key (sym c.in-Ok.is ∙ c.skim-got.ensures) (sym c.take_word-item.ensures ∙ c.in-Ok.is))
 
-pub returns-in-Refused : goal.returns-in-Refused
-returns-in-Refused c = word-before c.requires.good_table _ _ _ _ _ c.requires.falls c.requires.key (skim-refused _ _ _ _ _ _ (sym c.in-Refused.is ∙ c.skim-got.ensures))
+pub returns-in-Err : goal.returns-in-Err
+returns-in-Err c = word-before c.requires.good_table _ _ _ _ _ c.requires.falls c.requires.key (skim-refused _ _ _ _ _ _ (sym c.in-Err.is ∙ c.skim-got.ensures))
 
-pub returns-in-Refused-item : goal.returns-in-Refused-item
-returns-in-Refused-item c = refused-there c.requires.good_table _ _ _ _ _ _ c.requires.falls c.requires.key (sym c.in-Done.is ∙ c.skim-got.ensures) (omega (arith, c.if-count-ge-ROOM.false)) (sym c.take_word-item.ensures ∙ c.in-Refused-item.is)
+pub returns-in-Err-item : goal.returns-in-Err-item
+returns-in-Err-item c = refused-there c.requires.good_table _ _ _ _ _ _ c.requires.falls c.requires.key (sym c.in-Ok.is ∙ c.skim-got.ensures) (omega (arith, c.if-count-ge-ROOM.false)) (sym c.take_word-item.ensures ∙ c.in-Err-item.is)
 
-pub returns-in-Took : goal.returns-in-Took
-returns-in-Took c = took-there c.requires.good_table _ _ _ _ _ _ c.requires.falls c.requires.key (sym c.in-Done.is ∙ c.skim-got.ensures) (omega (arith, c.if-count-ge-ROOM.false)) (sym c.take_word-item.ensures ∙ c.in-Took.is)
+pub returns-in-Ok : goal.returns-in-Ok
+returns-in-Ok c = took-there c.requires.good_table _ _ _ _ _ _ c.requires.falls c.requires.key (sym c.in-Ok.is ∙ c.skim-got.ensures) (omega (arith, c.if-count-ge-ROOM.false)) (sym c.take_word-item.ensures ∙ c.in-Ok.is)

@@ -30,8 +30,8 @@ returns-then-end-len c = all_past _ _ _ _ c.requires c.past_keys-both.ensures c.
 pub skim-got-requires : goal.skim-got-requires
 skim-got-requires c = record { good_table = c.requires.good; falls = behind-falls _ _ _ c.requires; part_bound = rest-bound c.args.part.now c.if-len-at.false (omega (arith, c.well_formed.1.1.1.0.1)) }
 
-pub returns-in-Refused : goal.returns-in-Refused
-returns-in-Refused c = rest-stops _ _ _ _ c.requires c.past_keys-both.ensures c.if-len-at.false c.if-made-gt-ROOM.false (sym c.in-Refused.is ∙ c.skim-got.ensures)
+pub returns-in-Err : goal.returns-in-Err
+returns-in-Err c = rest-stops _ _ _ _ c.requires c.past_keys-both.ensures c.if-len-at.false c.if-made-gt-ROOM.false (sym c.in-Err.is ∙ c.skim-got.ensures)
 
-pub returns-in-Done : goal.returns-in-Done
-returns-in-Done c = rest-message _ _ _ _ c.requires c.past_keys-both.ensures c.if-len-at.false c.if-made-gt-ROOM.false (sym c.in-Done.is ∙ c.skim-got.ensures) c.key_by-key.ensures
+pub returns-in-Ok : goal.returns-in-Ok
+returns-in-Ok c = rest-message _ _ _ _ c.requires c.past_keys-both.ensures c.if-len-at.false c.if-made-gt-ROOM.false (sym c.in-Ok.is ∙ c.skim-got.ensures) c.key_by-key.ensures

@@ -14,17 +14,17 @@ overflow_add-from c = omega (arith, (second-falls _ _ _ c.requires).inside)
 pub overflow_mul-from : goal.overflow_mul-from
 overflow_mul-from c = omega (arith, (second-falls _ _ _ c.requires).inside)
 
-pub overflow_add-from-in-Took : goal.overflow_add-from-in-Took
-overflow_add-from-in-Took c = omega (arith, (second-falls _ _ _ c.requires).inside)
+pub overflow_add-from-in-Ok : goal.overflow_add-from-in-Ok
+overflow_add-from-in-Ok c = omega (arith, (second-falls _ _ _ c.requires).inside)
 
 pub slice_bounds-key_word-count : goal.slice_bounds-key_word-count
-slice_bounds-key_word-count c = first-inside _ _ _ _ c.requires c.key_word-one.ensures c.in-Took.is
+slice_bounds-key_word-count c = first-inside _ _ _ _ c.requires c.key_word-one.ensures c.in-Ok.is
 
 pub slice_bounds-key_word-start : goal.slice_bounds-key_word-start
-slice_bounds-key_word-start c = first-inside _ _ _ _ c.requires c.key_word-one.ensures c.in-Took.is
+slice_bounds-key_word-start c = first-inside _ _ _ _ c.requires c.key_word-one.ensures c.in-Ok.is
 
 pub key_word-other-requires : goal.key_word-other-requires
-key_word-other-requires c = record { good_table = c.requires.good; falls = second-falls _ _ _ c.requires; key = c.requires.second; part_bound = rest-bound c.args.part.now (first-inside _ _ _ _ c.requires c.key_word-one.ensures c.in-Took.is) (omega arith) }
+key_word-other-requires c = record { good_table = c.requires.good; falls = second-falls _ _ _ c.requires; key = c.requires.second; part_bound = rest-bound c.args.part.now (first-inside _ _ _ _ c.requires c.key_word-one.ensures c.in-Ok.is) (omega arith) }
 
 pub overflow_add-behind : goal.overflow_add-behind
 overflow_add-behind c = omega (arith, (third-falls _ _ _ c.requires).inside)
@@ -32,26 +32,26 @@ overflow_add-behind c = omega (arith, (third-falls _ _ _ c.requires).inside)
 pub overflow_mul-behind : goal.overflow_mul-behind
 overflow_mul-behind c = omega (arith, (third-falls _ _ _ c.requires).inside)
 
-pub overflow_add-behind-in-Took-other : goal.overflow_add-behind-in-Took-other
-overflow_add-behind-in-Took-other c = omega (arith, (third-falls _ _ _ c.requires).inside)
+pub overflow_add-behind-in-Ok-other : goal.overflow_add-behind-in-Ok-other
+overflow_add-behind-in-Ok-other c = omega (arith, (third-falls _ _ _ c.requires).inside)
 
 pub slice_bounds-skim-count : goal.slice_bounds-skim-count
-slice_bounds-skim-count c = second-inside _ _ _ _ c.requires c.key_word-one.ensures c.in-Took.is c.key_word-other.ensures c.in-Took-other.is
+slice_bounds-skim-count c = second-inside _ _ _ _ c.requires c.key_word-one.ensures c.in-Ok.is c.key_word-other.ensures c.in-Ok-other.is
 
 pub slice_bounds-skim-start : goal.slice_bounds-skim-start
-slice_bounds-skim-start c = second-inside _ _ _ _ c.requires c.key_word-one.ensures c.in-Took.is c.key_word-other.ensures c.in-Took-other.is
+slice_bounds-skim-start c = second-inside _ _ _ _ c.requires c.key_word-one.ensures c.in-Ok.is c.key_word-other.ensures c.in-Ok-other.is
 
 pub skim-got-requires : goal.skim-got-requires
-skim-got-requires c = record { good_table = c.requires.good; falls = third-falls _ _ _ c.requires; part_bound = rest-bound c.args.part.now (second-inside _ _ _ _ c.requires c.key_word-one.ensures c.in-Took.is c.key_word-other.ensures c.in-Took-other.is) (omega (arith, c.well_formed.1.1.1.0.1)) }
+skim-got-requires c = record { good_table = c.requires.good; falls = third-falls _ _ _ c.requires; part_bound = rest-bound c.args.part.now (second-inside _ _ _ _ c.requires c.key_word-one.ensures c.in-Ok.is c.key_word-other.ensures c.in-Ok-other.is) (omega (arith, c.well_formed.1.1.1.0.1)) }
 
-pub returns-in-Refused : goal.returns-in-Refused
-returns-in-Refused c = first_stops _ _ _ _ c.requires c.key_word-one.ensures c.in-Refused.is
+pub returns-in-Err : goal.returns-in-Err
+returns-in-Err c = first_stops _ _ _ _ c.requires c.key_word-one.ensures c.in-Err.is
 
-pub returns-in-Refused-other : goal.returns-in-Refused-other
-returns-in-Refused-other c = second-stops _ _ _ _ c.requires c.key_word-one.ensures c.in-Took.is c.key_word-other.ensures c.in-Refused-other.is
+pub returns-in-Err-other : goal.returns-in-Err-other
+returns-in-Err-other c = second-stops _ _ _ _ c.requires c.key_word-one.ensures c.in-Ok.is c.key_word-other.ensures c.in-Err-other.is
 
-pub returns-in-Refused-got : goal.returns-in-Refused-got
-returns-in-Refused-got c = third-stops _ _ _ _ c.requires c.key_word-one.ensures c.in-Took.is c.key_word-other.ensures c.in-Took-other.is (sym c.in-Refused-got.is ∙ c.skim-got.ensures)
+pub returns-in-Err-got : goal.returns-in-Err-got
+returns-in-Err-got c = third-stops _ _ _ _ c.requires c.key_word-one.ensures c.in-Ok.is c.key_word-other.ensures c.in-Ok-other.is (sym c.in-Err-got.is ∙ c.skim-got.ensures)
 
-pub returns-in-Done : goal.returns-in-Done
-returns-in-Done c = message-is _ _ _ _ c.requires c.key_word-one.ensures c.in-Took.is c.key_word-other.ensures c.in-Took-other.is (sym c.in-Done.is ∙ c.skim-got.ensures) c.key_by-key.ensures
+pub returns-in-Ok : goal.returns-in-Ok
+returns-in-Ok c = message-is _ _ _ _ c.requires c.key_word-one.ensures c.in-Ok.is c.key_word-other.ensures c.in-Ok-other.is (sym c.in-Ok.is ∙ c.skim-got.ensures) c.key_by-key.ensures

@@ -7,13 +7,13 @@ use Rattle.put_row.proofs.Telling.{one-refused, one-laid}
 use Rattle.put_row.proofs.put_next.Goals as goal
 
 pub overflow_add-behind : goal.overflow_add-behind
-overflow_add-behind c = omega (arith, behind _ c.args.message.now _ c.requires.place_in_bounds (sym (leaf-head _ _ _ c.requires.number_value c.requires.place_in_bounds (omega arith)) ∙ sym c.take-got.ensures ∙ c.in-Took.is))
+overflow_add-behind c = omega (arith, behind _ c.args.message.now _ c.requires.place_in_bounds (sym (leaf-head _ _ _ c.requires.number_value c.requires.place_in_bounds (omega arith)) ∙ sym c.take-got.ensures ∙ c.in-Ok.is))
 
 pub put_field-len-requires : goal.put_field-len-requires
-put_field-len-requires c = spellable _ _ _ c.requires.place_in_bounds (sym (leaf-head _ _ _ c.requires.number_value c.requires.place_in_bounds (omega arith)) ∙ sym c.take-got.ensures ∙ c.in-Took.is) c.requires.number_value
+put_field-len-requires c = spellable _ _ _ c.requires.place_in_bounds (sym (leaf-head _ _ _ c.requires.number_value c.requires.place_in_bounds (omega arith)) ∙ sym c.take-got.ensures ∙ c.in-Ok.is) c.requires.number_value
 
-pub returns-in-Refused : goal.returns-in-Refused
-returns-in-Refused c = one-refused _ _ _ _ _ _ (sym (leaf-head _ _ _ c.requires.number_value c.requires.place_in_bounds (omega arith)) ∙ sym c.take-got.ensures ∙ c.in-Refused.is)
+pub returns-in-Err : goal.returns-in-Err
+returns-in-Err c = one-refused _ _ _ _ _ _ (sym (leaf-head _ _ _ c.requires.number_value c.requires.place_in_bounds (omega arith)) ∙ sym c.take-got.ensures ∙ c.in-Err.is)
 
-pub returns-in-Took : goal.returns-in-Took
-returns-in-Took c = one-laid _ _ _ _ _ _ (omega arith) (sym (leaf-head _ _ _ c.requires.number_value c.requires.place_in_bounds (omega arith)) ∙ sym c.take-got.ensures ∙ c.in-Took.is) c.put_between-next.ensures c.put_field-len.ensures
+pub returns-in-Ok : goal.returns-in-Ok
+returns-in-Ok c = one-laid _ _ _ _ _ _ (omega arith) (sym (leaf-head _ _ _ c.requires.number_value c.requires.place_in_bounds (omega arith)) ∙ sym c.take-got.ensures ∙ c.in-Ok.is) c.put_between-next.ensures c.put_field-len.ensures

@@ -29,7 +29,7 @@ pub overflow_add-child : goal.overflow_add-child
 overflow_add-child c = omega (arith, c.loop-left.invariant.rowed.falls.inside)
 
 pub loop-left-preserved : goal.loop-left-preserved
-loop-left-preserved c = let x = is-laid c.put_next-got.ensures c.in-Laid.is in going_next c.loop-left.invariant c.loop-left-test.true c.u16_at-c.ensures.0 c.kind_at-number.ensures (omega arith) x.bytes x.is (one_inside _ _ _ _ c.loop-left.invariant.inside x.is) x.lays
+loop-left-preserved c = let x = is-laid c.put_next-got.ensures c.in-Ok.is in going_next c.loop-left.invariant c.loop-left-test.true c.u16_at-c.ensures.0 c.kind_at-number.ensures (omega arith) x.bytes x.is (one_inside _ _ _ _ c.loop-left.invariant.inside x.is) x.lays
 
 pub shape_of-out : goal.shape_of-out
 shape_of-out c = c.out-2-1.given ∙ c.loop-left.invariant.lays.long

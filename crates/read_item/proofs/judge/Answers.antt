@@ -8,7 +8,7 @@ pub returns-in_default : goal.returns-in_default
 returns-in_default c = judged-refused _ _ c.in_default.is
 
 pub returns-then-is_longer : goal.returns-then-is_longer
-returns-then-is_longer c = judged-longer _ _ c.in-Took.is (sym c.is_longer.ensures ∙ c.if-is_longer.true)
+returns-then-is_longer c = judged-longer _ _ c.in-Ok.is (sym c.is_longer.ensures ∙ c.if-is_longer.true)
 
 pub returns : goal.returns
-returns c = judged-taken _ _ c.in-Took.is (sym c.is_longer.ensures ∙ c.if-is_longer.false)
+returns c = judged-taken _ _ c.in-Ok.is (sym c.is_longer.ensures ∙ c.if-is_longer.false)

@@ -13,10 +13,10 @@ pub take_number-got-requires : goal.take_number-got-requires
 take_number-got-requires c = c.requires.at_in_bounds
 
 pub put_leaf-len-requires : goal.put_leaf-len-requires
-put_leaf-len-requires c = record { leaf = number-leaf c.requires.number; fits = number_fits _ c.smallest-below.ensures _ _ c.take_number-got.ensures c.in-Is.is _ }
+put_leaf-len-requires c = record { leaf = number-leaf c.requires.number; fits = number_fits _ c.smallest-below.ensures _ _ c.take_number-got.ensures c.in-Ok.is _ }
 
-pub returns-in-Stops : goal.returns-in-Stops
-returns-in-Stops c = number-stops _ c.smallest-below.ensures _ _ c.take_number-got.ensures c.in-Stops.is
+pub returns-in-Err : goal.returns-in-Err
+returns-in-Err c = number-stops _ c.smallest-below.ensures _ _ c.take_number-got.ensures c.in-Err.is
 
-pub returns-in-Is : goal.returns-in-Is
-returns-in-Is c = number-took _ c.smallest-below.ensures _ _ c.take_number-got.ensures c.in-Is.is c.put_leaf-len.ensures
+pub returns-in-Ok : goal.returns-in-Ok
+returns-in-Ok c = number-took _ c.smallest-below.ensures _ _ c.take_number-got.ensures c.in-Ok.is c.put_leaf-len.ensures

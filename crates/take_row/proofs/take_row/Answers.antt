@@ -19,26 +19,26 @@ kind_at-number-requires c = record { good_table = c.loop-left.invariant.rowed.go
 pub start_of-begun-requires : goal.start_of-begun-requires
 start_of-begun-requires c = c.loop-left.invariant.inside
 
-pub shape_of-out-in-Stops : goal.shape_of-out-in-Stops
-shape_of-out-in-Stops c = c.loop-left.invariant.lays.long
+pub shape_of-out-in-Err : goal.shape_of-out-in-Err
+shape_of-out-in-Err c = c.loop-left.invariant.lays.long
 
-pub returns-in-Stops : goal.returns-in-Stops
-returns-in-Stops c = going-no-comma c.loop-left.invariant c.loop-left-test.true c.u16_at-c.ensures.0 c.kind_at-number.ensures c.start_of-begun.ensures c.in-Stops.is
+pub returns-in-Err : goal.returns-in-Err
+returns-in-Err c = going-no-comma c.loop-left.invariant c.loop-left-test.true c.u16_at-c.ensures.0 c.kind_at-number.ensures c.start_of-begun.ensures c.in-Err.is
 
 pub take_field-got-requires : goal.take_field-got-requires
-take_field-got-requires c = record { number_value = rowed-first c.loop-left.invariant.rowed c.loop-left-test.true c.u16_at-c.ensures.0 c.kind_at-number.ensures; at_in_bounds = (going-begun c.loop-left.invariant c.loop-left-test.true c.u16_at-c.ensures.0 c.kind_at-number.ensures c.start_of-begun.ensures c.in-Took.is).inside }
+take_field-got-requires c = record { number_value = rowed-first c.loop-left.invariant.rowed c.loop-left-test.true c.u16_at-c.ensures.0 c.kind_at-number.ensures; at_in_bounds = (going-begun c.loop-left.invariant c.loop-left-test.true c.u16_at-c.ensures.0 c.kind_at-number.ensures c.start_of-begun.ensures c.in-Ok.is).inside }
 
-pub shape_of-out-in-Stops-got : goal.shape_of-out-in-Stops-got
-shape_of-out-in-Stops-got c = c.out-1.given ∙ c.loop-left.invariant.lays.long
+pub shape_of-out-in-Err-got : goal.shape_of-out-in-Err-got
+shape_of-out-in-Err-got c = c.out-1.given ∙ c.loop-left.invariant.lays.long
 
-pub returns-in-Stops-got : goal.returns-in-Stops-got
-returns-in-Stops-got c = going-stops c.loop-left.invariant c.loop-left-test.true c.u16_at-c.ensures.0 c.kind_at-number.ensures (going-begun c.loop-left.invariant c.loop-left-test.true c.u16_at-c.ensures.0 c.kind_at-number.ensures c.start_of-begun.ensures c.in-Took.is) c.take_field-got.ensures c.in-Stops-got.is
+pub returns-in-Err-got : goal.returns-in-Err-got
+returns-in-Err-got c = going-stops c.loop-left.invariant c.loop-left-test.true c.u16_at-c.ensures.0 c.kind_at-number.ensures (going-begun c.loop-left.invariant c.loop-left-test.true c.u16_at-c.ensures.0 c.kind_at-number.ensures c.start_of-begun.ensures c.in-Ok.is) c.take_field-got.ensures c.in-Err-got.is
 
 pub overflow_add-child : goal.overflow_add-child
 overflow_add-child c = omega (arith, c.loop-left.invariant.rowed.falls.inside)
 
 pub loop-left-preserved : goal.loop-left-preserved
-loop-left-preserved c = going_next c.loop-left.invariant c.loop-left-test.true c.u16_at-c.ensures.0 c.kind_at-number.ensures (going-begun c.loop-left.invariant c.loop-left-test.true c.u16_at-c.ensures.0 c.kind_at-number.ensures c.start_of-begun.ensures c.in-Took.is) c.take_field-got.ensures c.in-Took-got.is
+loop-left-preserved c = going_next c.loop-left.invariant c.loop-left-test.true c.u16_at-c.ensures.0 c.kind_at-number.ensures (going-begun c.loop-left.invariant c.loop-left-test.true c.u16_at-c.ensures.0 c.kind_at-number.ensures c.start_of-begun.ensures c.in-Ok.is) c.take_field-got.ensures c.in-Ok-got.is
 
 pub end_of-requires : goal.end_of-requires
 end_of-requires c = c.loop-left.invariant.inside

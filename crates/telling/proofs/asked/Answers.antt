@@ -3,11 +3,11 @@
 use Rattle.telling.proofs.Told.{ask-says, ask-refused, ask-short}
 use Rattle.telling.proofs.asked.Goals as goal
 
-pub returns-in-Says : goal.returns-in-Says
-returns-in-Says c = ask-says c.in-Says.is c.yes.ensures
+pub returns-in-Ok : goal.returns-in-Ok
+returns-in-Ok c = ask-says c.in-Ok.is c.yes.ensures
 
-pub returns-in-Refused : goal.returns-in-Refused
-returns-in-Refused c = ask-refused c.in-Refused.is c.refusal.ensures c.side.ensures
+pub returns-in-Err : goal.returns-in-Err
+returns-in-Err c = ask-refused c.in-Err.is c.refusal.ensures c.side.ensures
 
-pub returns-in-ShortArea : goal.returns-in-ShortArea
-returns-in-ShortArea c = ask-short c.in-ShortArea.is
+pub returns-in-Err : goal.returns-in-Err
+returns-in-Err c = ask-short c.in-Err.is

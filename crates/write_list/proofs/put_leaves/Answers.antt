@@ -32,7 +32,7 @@ pub loop-left-preserved : goal.loop-left-preserved
 loop-left-preserved c = let inv = c.loop-left.invariant.0 in
     let more = c.loop-left-test.true in
     let low = falls-first inv.falls more in
-    let q = c.in-Done.is in
+    let q = c.in-Ok.is in
     (record { falls = falls-next inv.falls more; going = first_done (few_bytes _ c.well_formed.1.1.1.1.1.0.1) inv.going (stretch-first _ _ _ _ _ _ c.u16_at-c.ensures.0 more) (leaf-gives c.requires.good_table (omega (arith, low)) c.kind_at-number.ensures (c.put_leaf-got.ensures.put q)) q }, search rules)
 
 pub returns : goal.returns

@@ -17,7 +17,6 @@ ghost use Rattle.batch.specs.Opened.{Opens, Parted, Finds};
 use wire::{Layout, Refusal, RefusedAt};
 use laying::Tally;
 use desk::{Fault, Key, Part};
-use Counted;
 use messages::{Fields, Message};
 
 // A batch taken apart by its trailer: its key fields, and where its rows start and end.

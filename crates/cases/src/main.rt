@@ -6,7 +6,6 @@ use wire::{Reached, Stopped};
 use recorded::field::{number_at, part};
 use say::{say, say_bytes, say_entries, say_why, say_with};
 use std::io;
-use ReadAnswer;
 
 // So many messages are in the list.
 const MESSAGES: usize = 13;

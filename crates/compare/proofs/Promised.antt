@@ -25,7 +25,7 @@ use Rattle.wire.specs.Reading.{Spot, Outcome, reached, refused, Run, front, read
 use Rattle.wire.specs.Answers.{read_by, read_answer, run_answer, skims}
 use Rattle.laws.proofs.ReadBy.{reads_plain}
 use Rattle.desk.specs.CompareAnswer.{CompareAnswer}
-use Rattle.desk.specs.declared.CompareAnswer.TheVariants as answer
+use Rattle.desk.specs.CompareAnswer as answer
 use Rattle.desk.specs.Path.{most_entries}
 use Rattle.desk.specs.Differ.{Pair, beside, differences, Answered, pairs, refuses, compare_runs, compare_reads, compare_by, compares, pair_words, has_room, compare_answer, list_after}
 use Rattle.beside.specs.Meeting.{Met, meeting}

@@ -10,8 +10,6 @@ ghost use Rattle.compare.specs.Promise.{Compares};
 
 use compare_walk::Gone;
 use desk::NotCompared;
-use Walked;
-use CompareAnswer;
 use wire::{Layout, Reached, RefusedAt, Stopped};
 
 // How many bytes the shorter of two messages has at most for so many words of pairs to be kept while both are judged. An item that

@@ -19,7 +19,7 @@ use wire::{Layout, Own, Refusal};
 
 // What was taken on both sides: whether it is the same, and its bytes on each.
 #[derive(Clone, Copy)]
-pub struct Both {
+pub struct Sides {
     pub same: bool,
     pub used: usize,
     pub other: usize,
@@ -107,7 +107,7 @@ fn same_leaf(number: u8, mine: Own, part: &[u8], its: Own, other: &[u8]) -> bool
 // ---- a leaf on both sides
 
 // Two numbers that were read: their first words decide.
-fn both(got: Result<Own, Refusal>, there: Result<Own, Refusal>) -> Option<Both>
+fn both(got: Result<Own, Refusal>, there: Result<Own, Refusal>) -> Option<Sides>
     ensures { result ≡ taken_numbers got there }
 {
     let Ok(a) = got else {
@@ -117,7 +117,7 @@ fn both(got: Result<Own, Refusal>, there: Result<Own, Refusal>) -> Option<Both>
         return None;
     };
     let same = a.first == b.first;
-    Some(Both {
+    Some(Sides {
         same,
         used: a.used,
         other: b.used,
@@ -126,7 +126,7 @@ fn both(got: Result<Own, Refusal>, there: Result<Own, Refusal>) -> Option<Both>
 
 // An integer. It is taken here, as in `read_item::int_bytes` and for the same reason: that has a single caller, and so is part
 // of it. Two signed numbers are the same if they are so before they are unzigzagged.
-fn take_int(number: u8, part: &[u8], other: &[u8]) -> Option<Both>
+fn take_int(number: u8, part: &[u8], other: &[u8]) -> Option<Sides>
     requires { IsInt number }
     ensures { result ≡ taken_both (kind_of number) part.now other.now (head (kind_of number) 0 0 part.now) (head (kind_of number) 0 0 other.now) }
 {
@@ -143,7 +143,7 @@ fn take_int(number: u8, part: &[u8], other: &[u8]) -> Option<Both>
 }
 
 // Another leaf.
-fn take_other(number: u8, part: &[u8], place: usize, other: &[u8], there: usize) -> Option<Both>
+fn take_other(number: u8, part: &[u8], place: usize, other: &[u8], there: usize) -> Option<Sides>
     requires leaf { IsLeaf number }
     requires part_bound { place + length part.now < 2 ^ 64 }
     requires other_bound { there + length other.now < 2 ^ 64 }
@@ -158,7 +158,7 @@ fn take_other(number: u8, part: &[u8], place: usize, other: &[u8], there: usize)
         return None;
     };
     let same = same_leaf(number, a, part, b, other);
-    Some(Both {
+    Some(Sides {
         same,
         used: a.used,
         other: b.used,
@@ -166,7 +166,7 @@ fn take_other(number: u8, part: &[u8], place: usize, other: &[u8], there: usize)
 }
 
 // Any leaf that stands at `place` of the first message and at `there` of the second.
-pub fn take_leaf(number: u8, part: &[u8], place: usize, other: &[u8], there: usize) -> Option<Both>
+pub fn take_leaf(number: u8, part: &[u8], place: usize, other: &[u8], there: usize) -> Option<Sides>
     requires leaf { IsLeaf number }
     requires part_bound { place + length part.now < 2 ^ 64 }
     requires other_bound { there + length other.now < 2 ^ 64 }
@@ -199,7 +199,7 @@ fn inner_bytes(number: u8, count: usize, part: &[u8], place: usize) -> Result<Ow
     }
 }
 
-// Both sides' own bytes at `place` of the first message and at `there` of the second, and what follows them.
+// Sides sides' own bytes at `place` of the first message and at `there` of the second, and what follows them.
 pub fn enter(
     table: &[u8],
     l: Layout,

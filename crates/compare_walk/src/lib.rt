@@ -15,7 +15,7 @@ ghost use Rattle.desk.specs.Differ.{beside};
 ghost use Rattle.beside.specs.Meeting.{meeting};
 ghost use Rattle.compare_walk.specs.Steps.{lay, Gives, Begins, passed};
 
-use compare_item::{Both, Inside};
+use compare_item::{Inside, Sides};
 use table::Stretch;
 use wire::{Layout, Reached};
 
@@ -158,7 +158,7 @@ fn walk_item(
         );
     }
     let taken = compare_item::take_leaf(number, part, place, other, there);
-    let Some(Both {
+    let Some(Sides {
         same,
         used,
         other: beyond,

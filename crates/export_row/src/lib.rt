@@ -7,8 +7,6 @@ ghost use Rattle.columns.specs.Columns.{field_shapes, Rowed};
 ghost use Rattle.put_row.specs.Rows.{fields_from};
 ghost use Rattle.export_row.specs.Outputs.{Gives, told_output};
 
-use CsvAnswer;
-use Row;
 use desk::NotRows;
 use put_row::Laid;
 use wire::{Layout, Refusal, RefusedAt};

@@ -12,7 +12,6 @@ ghost use Rattle.along.specs.Seek.{seek as seek_of};
 ghost use Rattle.find.specs.Steps.{is_some, Inward, Owns, seek_behind, seek_node, Passes, Arrives};
 
 use desk::{Found, NotFound};
-use FindAnswer;
 use wire::{Layout, Own, Reached, Refusal, RefusedAt, Stopped};
 
 // Every message is read as with a store of so many entries.

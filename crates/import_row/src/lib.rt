@@ -11,8 +11,6 @@ ghost use Rattle.import_row.specs.Outputs.{taken_output};
 
 use take_row::{Laid, NoRow};
 use desk::NotRows;
-use CsvAnswer;
-use Message;
 use wire::{Layout, Refusal};
 
 // The room for the message of few fields that are short, which is soon cleared, and of others.

@@ -5,7 +5,6 @@ use crate::names::say_kind;
 use crate::path::{DEEPEST, node_at};
 use crate::tree::say_bad;
 use crate::value::say_value;
-use FindAnswer;
 use desk::{Found, NotFound};
 use say::{say, say_why, say_with};
 use std::io;

@@ -1,8 +1,6 @@
 // Loops over the leaves, so that a driver can time them without a call for each item. No part of the library.
 #![tactic(auto)]
 
-use Item;
-
 // The sum of a message's varints, one after the other, up to the first that is refused.
 fn sum(message: &[u8], most: usize, last: u64) -> u64 {
     let mut sum: u64 = 0;

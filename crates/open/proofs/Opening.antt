@@ -22,7 +22,7 @@ use Rattle.table.specs.declared.Way.{Way}
 use Rattle.table.specs.Parts.{Falls, Flat, node_step, rounds_step}
 use Rattle.table.proofs.Stretches.{rounds-end, flat-falls, flat-rounds}
 use Rattle.read_item.specs.Entered.{Entered}
-use Rattle.read_item.specs.declared.Entered.TheVariants as entered
+use Rattle.read_item.specs.Entered as entered
 use Rattle.read_item.specs.Lay.{lay}
 use Rattle.read_item.specs.Steps.{spot, own_of, after_of, Enters, goes as enters, stops as halts}
 use Rattle.read_item.proofs.Entering.{Goes as Taken}

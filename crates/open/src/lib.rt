@@ -20,9 +20,7 @@ ghost use Rattle.open.specs.Steps.{Leads, Rounds, Works, Opens};
 
 use wire::{Layout, Own, Reached, Refusal, RefusedAt, Stopped};
 use desk::NotOpened;
-use OpenAnswer;
 use read_item::Inside;
-use Begun;
 
 // How far a step came: so many are left, of a row's numbers or of the open items.
 #[derive(Clone, Copy)]

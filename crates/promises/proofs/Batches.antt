@@ -23,6 +23,7 @@ use Rattle.desk.specs.declared.Fault.TheVariants.{Wire, Fields, Batch as BadBatc
 use Rattle.desk.specs.BatchWritten.{Done as Written, Refused as NotWritten}
 use Rattle.desk.specs.BatchFound.{Part as Found, Refused as NotFound}
 use Rattle.desk.specs.declared.Key.{Key}
+use Rattle.desk.specs.declared.Part as found
 use Rattle.desk.specs.Rows.{same_key, sort, some_if, number_at, rows_bytes, row_at, rows_at}
 use Rattle.desk.specs.Messages.{Keyed, is_keyed, Message, Cut, next, stops, next_of, Split, whole, broken, split, joined, rows_of, Part}
 use Rattle.desk.specs.Batch.{Or, so, fault, after, shape_by, tabled, keyed, trailer, batch_of, Parts, parts_at, open_at, opened, split_by, sized, writes, part_by, found_in, written_answer, out_with, found_answer, batch_write, batch_write_out, batch_last, part_of}
@@ -113,7 +114,9 @@ last-from-front table batch k answer e x = searched-is-last table batch k answer
 
 of-found {ℓ} : {X : Type ℓ} (o : Or Part) {from len : ℕ} → Found from len ≡ found_answer o → ((p : Part) → o ≡ so p → p.from ≡ from → p.len ≡ len → X) → X
 unfolding found_answer
-of-found (so p) e f = f p refl (cc) (cc)
+of-found (so p) {from = a} {len = n} e f =
+    let same : ◌≡◌ {A = found.Part} (record { from = a; len = n }) (record { from = p.from; len = p.len }) = cc in
+    f p refl (sym (ap (λ q. q.from) same)) (sym (ap (λ q. q.len) same))
 of-found (fault why) e f = let z : ◌≡◌ {A = ℕ} 0 1 = cc in absurd (omega arith)
 
 -- the message that is read at a place before the rows

@@ -11,6 +11,7 @@ use lib.ListN.{length, take, drop, replicate, length-replicate}
 use lib.Seq.{length-take-le, take-append_seam}
 use borrow.Author.Tests.{le-leb, eq-eqb}
 use Rattle.wire.specs.declared.Layout.{Layout}
+use Rattle.wire.specs.declared.Reached.{Reached}
 use Rattle.wire.specs.Checked.{Checked}
 use Rattle.wire.specs.Checked.{Good, Bad}
 use Rattle.wire.specs.ReadAnswer.{Done as Read}
@@ -102,11 +103,12 @@ done-run r store left n count h = go r.ends refl h.answered
     go : (o : Outcome) → r.ends ≡ o → Read n count ≡ read_answer o (length r.made) → Done r n count left
     go (reached x) e a =
         unfold read_answer in
-        let many : count ≡ length r.made = cc a in
+        let same : ◌≡◌ {A = Reached} (record { place = n; count = count }) (record { place = x.place; count = length r.made }) = cc in
+        let many : count ≡ length r.made = ap (λ q. q.count) same in
         record {
           end = x;
           is = ap (λ o. record { made = r.made; ends = o }) e;
-          place = cc a;
+          place = ap (λ q. q.place) same;
           front = rw h.stored (front-words r.made (words_per * count) store (ap (words_per *◌) (sym many)));
         }
     go (refused why p) e a = unfold read_answer in let z : ◌≡◌ {A = ℕ} 0 1 = cc a in absurd (omega arith)

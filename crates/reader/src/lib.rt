@@ -66,26 +66,8 @@ fn read_item(
     }
     let number = table::kind_at(table, l, node);
     if !strict {
-        let int = read_item::int_bytes(number, part);
-        match int {
-            Some(item) => {
-                let got = read_item::lay(item, place, store, made);
-                // Made anew, so that it does not go through memory with other answers.
-                let Ok(
-                    Reached {
-                        place: behind,
-                        count,
-                    },
-                ) = got
-                else {
-                    return got;
-                };
-                return Ok(Reached {
-                    place: behind,
-                    count,
-                });
-            }
-            None => {}
+        if let Some(item) = read_item::int_bytes(number, part) {
+            return read_item::lay(item, place, store, made);
         }
     }
     if table::is_inner(number) {
@@ -117,14 +99,15 @@ fn read_inner(
     requires part_bound { place + length part.now < 2 ^ 64 }
     ensures { Gives (lay room (node_step (reading (head_by strict)) table.now l node (spot part.now place)) made store.old) result store.new }
 {
-    let entered = read_item::enter(strict, table, l, node, number, part, place, store, made);
-    match entered {
+    match read_item::enter(strict, table, l, node, number, part, place, store, made) {
         Err(why) => Err(Stopped {
             why,
             place,
             count: made,
         }),
-        Ok(Inside { to, used }) => {
+        Ok(inside) => {
+            let used = inside.used;
+            let to = inside.to;
             let after = place + used;
             let next = made + 1;
             if to.rounds == 0 {
@@ -180,26 +163,19 @@ fn read_rounds(
     let mut sofar = made;
     let mut left = rounds;
     while 0 < left {
-        let begun = begin(headed, at, room, store, sofar);
-        let Some(ready) = begun else {
+        let Some(ready) = begin(headed, at, room, store, sofar) else {
             return Err(Stopped {
                 why: Refusal::Room,
                 place: at,
                 count: sofar,
             });
         };
-        let got = read_stretch(
+        let Reached {
+            place: next,
+            count: more,
+        } = read_stretch(
             strict, table, l, node, from, width, rest, at, room, store, ready,
-        );
-        let Ok(
-            Reached {
-                place: next,
-                count: more,
-            },
-        ) = got
-        else {
-            return got;
-        };
+        )?;
         let used = next - at;
         rest = &rest[used..];
         at = next;
@@ -239,16 +215,10 @@ fn read_stretch(
     let mut left = width;
     while 0 < left {
         let c = table::u16_at(table, child);
-        let got = read_item(strict, table, l, c, rest, at, room, store, sofar);
-        let Ok(
-            Reached {
-                place: next,
-                count: more,
-            },
-        ) = got
-        else {
-            return got;
-        };
+        let Reached {
+            place: next,
+            count: more,
+        } = read_item(strict, table, l, c, rest, at, room, store, sofar)?;
         let used = next - at;
         rest = &rest[used..];
         at = next;

@@ -5,7 +5,6 @@ ghost use Rattle.replay.specs.Told.{Tells};
 use desk::NotRows;
 use crate::answers;
 use crate::answers::Told;
-use CsvAnswer;
 use recorded::{field, memory};
 
 #[tactic(auto, unfolding(desk::specs::Csv::csv_says, wire::specs::Answers::done, wire::specs::Answers::numbered))]

@@ -2,12 +2,10 @@
 use desk::NotCompared;
 use wire::{Reached, Stopped};
 use crate::files;
-use CompareAnswer;
 use listing::changes;
 use say::say;
 use std::io;
 use std::rt::Runtime;
-use ReadAnswer;
 
 // The list has room for 16,384 pairs: no two messages of so many entries have more.
 const PAIRS: usize = 2 * 16384;

@@ -1,7 +1,6 @@
 // One item of a message, by a path in decimal.
 use desk::NotFound;
 use crate::decimal;
-use FindAnswer;
 use say::say;
 use std::io;
 use std::rt::Env;

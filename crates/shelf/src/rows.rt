@@ -1,7 +1,6 @@
 // A message as a row of CSV on standard output, and a row as a message in a file.
 use desk::NotRows;
 use crate::{files, shown};
-use CsvAnswer;
 use say::{front, say, say_with};
 use std::io;
 use std::rt::Runtime;

@@ -11,7 +11,6 @@ ghost use Rattle.columns.specs.Columns.{is_some};
 ghost use Rattle.take_field.specs.Taking.{TakesKind, quoted_kind};
 
 use take_number::{NoNumber, Numeral};
-use Number;
 
 // A field that was taken: the place behind it, and the length of its form.
 #[derive(Clone, Copy)]

@@ -5,7 +5,7 @@ ghost use Rattle.std.specs.Prelude.{◌≡◌};
 ghost use Rattle.wire.specs.Answers.{check_says, write_says};
 ghost use Rattle.desk.specs.Batch.{fault_says, written_says, checked_says};
 ghost use Rattle.desk.specs.Csv.{csv_says};
-ghost use Rattle.telling.specs.Told.{Told, Counted, CountedOpen, ToldAsked, Took, Found, ToldCompared, ToldPart};
+ghost use Rattle.telling.specs.Told.{Told, Counted, CountedOpen, ToldAsked, Took, Found as ToldFound, ToldCompared, ToldPart};
 ghost use Rattle.telling.specs.Marks.{waits, mark_after};
 
 use desk::{Fault, Found, NotCompared, NotFound, NotOpened, NotRows, Part};
@@ -69,22 +69,22 @@ pub fn opened(got: Result<Reached, NotOpened>, place: &mut u64, count: &mut u64)
             *count = made as u64;
             0
         }
-        Err(
+        Err(cause) => match cause {
             NotOpened::Refused {
                 why,
                 place: at,
                 count: made,
-            },
-        ) => {
-            *place = at as u64;
-            *count = made as u64;
-            numbers::refusal(why)
-        }
-        Err(NotOpened::ShortList) => {
-            *place = 0;
-            *count = 0;
-            numbers::SHORT_OPEN
-        }
+            } => {
+                *place = at as u64;
+                *count = made as u64;
+                numbers::refusal(why)
+            }
+            NotOpened::ShortList => {
+                *place = 0;
+                *count = 0;
+                numbers::SHORT_OPEN
+            }
+        },
     }
 }
 
@@ -114,24 +114,24 @@ pub fn asked(got: Result<bool, NotAsked>, place: &mut u64, which: &mut u64, yes:
             *yes = numbers::yes(says);
             0
         }
-        Err(
+        Err(cause) => match cause {
             NotAsked::Table {
                 side,
                 why,
                 place: node,
-            },
-        ) => {
-            *place = node as u64;
-            *which = numbers::side(side);
-            *yes = 0;
-            numbers::refusal(why)
-        }
-        Err(NotAsked::ShortArea) => {
-            *place = 0;
-            *which = 0;
-            *yes = 0;
-            numbers::SHORT_AREA
-        }
+            } => {
+                *place = node as u64;
+                *which = numbers::side(side);
+                *yes = 0;
+                numbers::refusal(why)
+            }
+            NotAsked::ShortArea => {
+                *place = 0;
+                *which = 0;
+                *yes = 0;
+                numbers::SHORT_AREA
+            }
+        },
     }
 }
 
@@ -198,7 +198,7 @@ pub fn found(
     first: &mut u64,
     second: &mut u64,
 ) -> u64
-    ensures { Found got result place.new first.new second.new }
+    ensures { ToldFound got result place.new first.new second.new }
 {
     *first = 0;
     *second = 0;
@@ -215,18 +215,20 @@ pub fn found(
             *second = y;
             0
         }
-        Err(NotFound::NoItem) => {
-            *place = 0;
-            numbers::NO_ITEM
-        }
-        Err(NotFound::Absent { place: at }) => {
-            *place = at as u64;
-            numbers::ABSENT
-        }
-        Err(NotFound::Refused { why, place: at }) => {
-            *place = at as u64;
-            numbers::refusal(why)
-        }
+        Err(cause) => match cause {
+            NotFound::NoItem => {
+                *place = 0;
+                numbers::NO_ITEM
+            }
+            NotFound::Absent { place: at } => {
+                *place = at as u64;
+                numbers::ABSENT
+            }
+            NotFound::Refused { why, place: at } => {
+                *place = at as u64;
+                numbers::refusal(why)
+            }
+        },
     }
 }
 
@@ -246,16 +248,18 @@ pub fn compared(
             *count = pairs as u64;
             0
         }
-        Err(NotCompared::Short) => numbers::SHORT_LIST,
-        Err(NotCompared::Refused { why, place: at }) => {
-            *place = at as u64;
-            numbers::refusal(why)
-        }
-        Err(NotCompared::OtherRefused { why, place: at }) => {
-            *place = at as u64;
-            *which = 1;
-            numbers::refusal(why)
-        }
+        Err(cause) => match cause {
+            NotCompared::Short => numbers::SHORT_LIST,
+            NotCompared::Refused { why, place: at } => {
+                *place = at as u64;
+                numbers::refusal(why)
+            }
+            NotCompared::OtherRefused { why, place: at } => {
+                *place = at as u64;
+                *which = 1;
+                numbers::refusal(why)
+            }
+        },
     }
 }
 
@@ -338,17 +342,19 @@ pub fn row(got: Result<usize, NotRows>, place: &mut u64) -> u64
             *place = end as u64;
             0
         }
-        Err(NotRows::Refused { why, place: at }) => {
-            *place = at as u64;
-            numbers::refusal(why)
-        }
-        Err(NotRows::Unfit) => {
-            *place = 0;
-            numbers::NO_COLUMNS
-        }
-        Err(NotRows::NoRow { place: at }) => {
-            *place = at as u64;
-            numbers::NO_ROW
-        }
+        Err(cause) => match cause {
+            NotRows::Refused { why, place: at } => {
+                *place = at as u64;
+                numbers::refusal(why)
+            }
+            NotRows::Unfit => {
+                *place = 0;
+                numbers::NO_COLUMNS
+            }
+            NotRows::NoRow { place: at } => {
+                *place = at as u64;
+                numbers::NO_ROW
+            }
+        },
     }
 }

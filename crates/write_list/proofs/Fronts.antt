@@ -15,7 +15,7 @@ use Rattle.laws.specs.KindRanges.{IsLeaf}
 use Rattle.laws.specs.Tables.{GoodTable}
 use Rattle.laws.proofs.Tables.{good-table}
 use Rattle.write_item.specs.Pooled.{Pooled}
-use Rattle.write_item.specs.declared.Pooled.TheVariants as pooled
+use Rattle.write_item.specs.Pooled as pooled
 use Rattle.write_item.specs.Own.{is_some, Fitting, SpellsEntry, Spells, Pools}
 use Rattle.write_list.specs.Put.{Put}
 use Rattle.write_list.specs.Put.{Done, Misfit}

@@ -13,10 +13,10 @@ use Rattle.output.specs.Bytes.{Puts}
 use Rattle.write_list.specs.Put.{Put}
 use Rattle.write_list.specs.Put.{Done, Misfit}
 use Rattle.write_list.specs.Entered.{Entered}
-use Rattle.write_list.specs.declared.Entered.TheVariants as entered
+use Rattle.write_list.specs.Entered as entered
 use Rattle.write_list.specs.declared.Ahead.{Ahead}
 use Rattle.write_list.specs.Begun.{Begun}
-use Rattle.write_list.specs.declared.Begun.TheVariants as begun
+use Rattle.write_list.specs.Begun as begun
 
 -- a value list's entries from the i-th on
 unfoldable pub entries : List ℕ → ℕ → Left

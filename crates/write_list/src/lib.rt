@@ -13,7 +13,6 @@ ghost use Rattle.laws.specs.KindRanges.{IsInner, IsLeaf};
 ghost use Rattle.table.specs.Parts.{Falls, node_step, row_step, rounds_step};
 ghost use Rattle.write_list.specs.Steps.{entries, write_leaf, Sure, Keeps, Gives, Enters, Begins, Leads, Leaf, Reaches, Nothing};
 
-use Pooled;
 use table::Stretch;
 use wire::Layout;
 

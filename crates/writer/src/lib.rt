@@ -13,7 +13,6 @@ ghost use Rattle.write_list.specs.Steps.{entries, write_leaf};
 ghost use Rattle.writer.specs.Promise.{Kept};
 
 use wire::{Layout, Refusal, RefusedAt};
-use Pooled;
 use write_list::{Ahead, Done, Misfit};
 
 // The rooms in which the first pass keeps a form.

@@ -6,8 +6,8 @@ use Rattle.telling.proofs.fault.Goals as goal
 pub returns-in-Wire : goal.returns-in-Wire
 returns-in-Wire c = fault-wire c.in-Wire.is c.refusal.ensures
 
-pub returns-in-Some : goal.returns-in-Some
-returns-in-Some c = fault-fields c.in-Some.is
+pub returns-in-Fields : goal.returns-in-Fields
+returns-in-Fields c = fault-fields c.in-Fields.is
 
 pub returns-in-Batch : goal.returns-in-Batch
 returns-in-Batch c = fault-batch c.in-Batch.is

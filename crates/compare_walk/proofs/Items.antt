@@ -49,7 +49,7 @@ use Rattle.compare_item.specs.Items.{taken_both, entered_both}
 use Rattle.compare_item.proofs.Leaves.{pooled-not}
 use Rattle.compare_walk.specs.Walked.{Walked}
 use Rattle.compare_walk.specs.Walked.{Apart}
-use Rattle.compare_walk.specs.declared.Walked.TheVariants as walked
+use Rattle.compare_walk.specs.Walked as walked
 use Rattle.compare_walk.specs.Steps.{Left, went, stopped, lay, Gives, passed_by, passed}
 use Rattle.compare_walk.proofs.Laying.{lay-nothing, lay-over, lay-fits, lay-after, gives-stopped, gives-went}
 

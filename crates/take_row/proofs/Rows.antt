@@ -29,7 +29,7 @@ use Rattle.output.specs.Bytes.{cap}
 use Rattle.output.proofs.Counting.{cap-small, cap-large, puts_none}
 use Rattle.take_number.specs.Scans.{Ends}
 use Rattle.take_field.specs.Field.{Field}
-use Rattle.take_field.specs.declared.Field.TheVariants as field
+use Rattle.take_field.specs.Field as field
 use Rattle.take_field.specs.Taking.{Takes, TakesKind}
 use Rattle.take_field.specs.Taking as taking
 use Rattle.take_row.specs.Message.{Message}

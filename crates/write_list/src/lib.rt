@@ -196,24 +196,33 @@ fn inner_item(
     requires sure { Sure judged (node_step (writing pool.now) table.now l node (entries words.now at)) }
     ensures { Gives (node_step (writing pool.now) table.now l node (entries words.now at)) words.now used out.old result out.new }
 {
-    let entered = enter(table, l, node, number, words, at, pool, out, used, judged);
-    match entered {
-        None => Err(Misfit { at }),
-        Some(Inside { to, used: more }) => {
-            let next = at + 1;
-            if to.rounds == 0 {
-                return Ok(Done {
-                    at: next,
-                    used: more,
-                });
-            }
-            let way = table::flat(table, l, node, to.from, to.width);
-            put_rounds(
-                table, l, node, to.rounds, way.headed, way.from, way.width, words, next, pool, out,
-                more, judged,
-            )
-        }
+    let Some(inside) = enter(table, l, node, number, words, at, pool, out, used, judged) else {
+        return Err(Misfit { at });
+    };
+    let to = inside.to;
+    let next = at + 1;
+    if to.rounds == 0 {
+        return Ok(Done {
+            at: next,
+            used: inside.used,
+        });
     }
+    let way = table::flat(table, l, node, to.from, to.width);
+    put_rounds(
+        table,
+        l,
+        node,
+        to.rounds,
+        way.headed,
+        way.from,
+        way.width,
+        words,
+        next,
+        pool,
+        out,
+        inside.used,
+        judged,
+    )
 }
 
 #[cycle(inner_item_put_item_put_rounds_put_stretch)]
@@ -242,22 +251,15 @@ fn put_rounds(
     let mut n = used;
     let mut left = rounds;
     while 0 < left {
-        let begun = begin(headed, words, i);
-        let Some(start) = begun else {
+        let Some(start) = begin(headed, words, i) else {
             return Err(Misfit { at: i });
         };
-        let got = put_stretch(
+        let Done {
+            at: next,
+            used: more,
+        } = put_stretch(
             table, l, node, from, width, words, start, pool, out, n, judged,
-        );
-        let Ok(
-            Done {
-                at: next,
-                used: more,
-            },
-        ) = got
-        else {
-            return got;
-        };
+        )?;
         i = next;
         n = more;
         left = left - 1;
@@ -291,16 +293,10 @@ fn put_stretch(
     let mut left = width;
     while 0 < left {
         let c = table::u16_at(table, child);
-        let got = put_item(table, l, c, words, i, pool, out, n, judged);
-        let Ok(
-            Done {
-                at: next,
-                used: more,
-            },
-        ) = got
-        else {
-            return got;
-        };
+        let Done {
+            at: next,
+            used: more,
+        } = put_item(table, l, c, words, i, pool, out, n, judged)?;
         i = next;
         n = more;
         child = child + 2;
@@ -418,17 +414,14 @@ fn put_content(
 {
     let first = entry::first(words, at);
     let second = entry::second(words, at);
-    let got = write_item::put_pooled(number, first, second, pool, out, used);
-    match got {
-        None => Err(Misfit { at }),
-        Some(more) => {
-            let next = at + 1;
-            Ok(Done {
-                at: next,
-                used: more,
-            })
-        }
-    }
+    let Some(more) = write_item::put_pooled(number, first, second, pool, out, used) else {
+        return Err(Misfit { at });
+    };
+    let next = at + 1;
+    Ok(Done {
+        at: next,
+        used: more,
+    })
 }
 
 // The entry of a kind's number, where it is a leaf's.
@@ -475,14 +468,7 @@ fn put_leaves(
     while 0 < left {
         let c = table::u16_at(table, field);
         let number = table::kind_at(table, l, c);
-        let got = put_leaf(number, words, i, pool, out, n);
-        let Ok(
-            Done {
-                at: next,
-                used: more,
-            },
-        ) = got
-        else {
+        let Ok(done) = put_leaf(number, words, i, pool, out, n) else {
             return Ahead {
                 at: i,
                 used: n,
@@ -490,8 +476,8 @@ fn put_leaves(
                 left,
             };
         };
-        i = next;
-        n = more;
+        i = done.at;
+        n = done.used;
         field = field + 2;
         left = left - 1;
     }

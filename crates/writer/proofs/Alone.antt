@@ -18,10 +18,10 @@ use Rattle.laws.specs.Answered.{Writes}
 use Rattle.entry.specs.Words.{first_at, second_at}
 use Rattle.output.specs.Bytes.{Puts}
 use Rattle.write_item.specs.Pooled.{Pooled}
-use Rattle.write_item.specs.declared.Pooled.TheVariants as pooled
+use Rattle.write_item.specs.Pooled as pooled
 use Rattle.write_item.specs.Own.{is_some, SpellsEntry, Pools}
 use Rattle.write_item.proofs.Spelling.{fits-part, spells-part}
-use Rattle.write_list.specs.declared.Put.TheVariants as put
+use Rattle.write_list.specs.Put as put
 use Rattle.write_list.specs.Steps.{entries, write_leaf, Gives}
 use Rattle.write_list.proofs.Going.{gives-misfit}
 use Rattle.write_list.proofs.Nodes.{some_fits}

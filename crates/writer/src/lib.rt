@@ -45,15 +45,16 @@ fn write_kept(
 {
     let got = write_list::put_rest(table, l, ahead, words, pool, kept, false);
     match got {
-        Err(Misfit { at }) => Err(RefusedAt {
+        Err(misfit) => Err(RefusedAt {
             why: Refusal::Values,
-            place: at,
+            place: misfit.at,
         }),
-        Ok(Done { at, used }) => {
-            if at < entry::room(words.len()) {
+        Ok(done) => {
+            let used = done.used;
+            if done.at < entry::room(words.len()) {
                 return Err(RefusedAt {
                     why: Refusal::Values,
-                    place: at,
+                    place: done.at,
                 });
             }
             if out.len() < used {
@@ -67,7 +68,7 @@ fn write_kept(
                 return Ok(used);
             }
             let nothing = write_list::put_nothing(table, l);
-            write_list::put_rest(table, l, nothing, words, pool, out, true);
+            let _ = write_list::put_rest(table, l, nothing, words, pool, out, true);
             Ok(used)
         }
     }
@@ -133,23 +134,20 @@ fn write_alone(number: u8, words: &[u64], pool: &[u8], out: &mut [u8]) -> Result
 {
     let first = entry::first(words, 0);
     let second = entry::second(words, 0);
-    let got = write_item::measure_pooled(number, first, second, pool);
-    match got {
-        None => Err(RefusedAt {
+    let Some(n) = write_item::measure_pooled(number, first, second, pool) else {
+        return Err(RefusedAt {
             why: Refusal::Values,
             place: 0,
-        }),
-        Some(n) => {
-            if out.len() < n {
-                return Err(RefusedAt {
-                    why: Refusal::Full,
-                    place: 0,
-                });
-            }
-            write_item::put_part(first, second, pool, out, 0);
-            Ok(n)
-        }
+        });
+    };
+    if out.len() < n {
+        return Err(RefusedAt {
+            why: Refusal::Full,
+            place: 0,
+        });
     }
+    write_item::put_part(first, second, pool, out, 0);
+    Ok(n)
 }
 
 // ---- by the table
@@ -157,7 +155,13 @@ fn write_alone(number: u8, words: &[u64], pool: &[u8], out: &mut [u8]) -> Result
 // A list of leaves only, as most short ones are, needs neither the cycle nor a second pass. Any other is left to `write_begun`,
 // by two calls: of one alone the compiler would make a part of this function, and every list would pay for the rooms. It is
 // lent the slices as parts: to lend them as they came, every list would first copy where they lie.
-fn write_list(table: &[u8], l: Layout, words: &[u64], pool: &[u8], out: &mut [u8]) -> Result<usize, RefusedAt>
+fn write_list(
+    table: &[u8],
+    l: Layout,
+    words: &[u64],
+    pool: &[u8],
+    out: &mut [u8],
+) -> Result<usize, RefusedAt>
     requires { check_of table.now ≡ Good l }
     ensures { Writes (writes table.now words.now pool.now (length out.old)) out.old result out.new }
 {

@@ -10,7 +10,7 @@ use Rattle.wire.specs.declared.RefusedAt.{RefusedAt}
 use Rattle.wire.specs.declared.Reached.{Reached}
 use Rattle.wire.specs.declared.Stopped.{Stopped}
 use Rattle.wire.specs.Checked.{Bad}
-use Rattle.wire.specs.ReadAnswer.{Done, Refused}
+use Rattle.wire.specs.ReadAnswer.{Done}
 
 -- what `?` returns: the error that came
 pub handed-up : {T E : Type 0} {r : Result T E} {e : E} → IsErr r × IsErrAnd r (λ y. y ≡ e) → r ≡ Err e
@@ -26,7 +26,8 @@ same-done {p} {p'} {n} {n'} h =
     let same : ◌≡◌ {A = Reached} (record { place = p; count = n }) (record { place = p'; count = n' }) = cc in
     (ap (λ r. r.place) same, ap (λ r. r.count) same)
 
-pub same-refused : {e e' : Refusal} {p p' n n' : ℕ} → Refused e p n ≡ Refused e' p' n' → (e ≡ e') × (p ≡ p') × (n ≡ n')
-same-refused {e} {e'} {p} {p'} {n} {n'} h =
+pub same-refused : {T : Type 0} {e e' : Refusal} {p p' n n' : ℕ} → ◌≡◌ {A = Result T Stopped} (Err (record { why = e; place = p; count = n })) (Err (record { why = e'; place = p'; count = n' }))
+    → (e ≡ e') × (p ≡ p') × (n ≡ n')
+same-refused {e = e} {e'} {p} {p'} {n} {n'} h =
     let same : ◌≡◌ {A = Stopped} (record { why = e; place = p; count = n }) (record { why = e'; place = p'; count = n' }) = cc in
     (ap (λ r. r.why) same, ap (λ r. r.place) same, ap (λ r. r.count) same)

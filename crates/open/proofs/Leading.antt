@@ -8,6 +8,7 @@ use native.Mathlib.Nat.{le_refl}
 use native.Mathlib.Omega.{arith}
 use lib.ListN.{length, drop, length-drop}
 use lib.Seq.{drop-drop}
+use Rattle.laws.proofs.Answers.{same-done}
 use Rattle.wire.specs.declared.Refusal.{Refusal}
 use Rattle.wire.specs.declared.Refusal.TheVariants.{Room}
 use Rattle.wire.specs.Item.{Item}
@@ -49,7 +50,7 @@ gives_more room r m st {a} g {q} {k} e = go (lay room r m st) (unfold lay laid i
     go w more e = ends w.ends e
       where
         ends : (o : Outcome) → read_answer o w.count ≡ Done q k → m ≤ k
-        ends (reached y) e = unfold read_answer in (let c : w.count ≡ k = cc in omega arith)
+        ends (reached y) e = unfold read_answer in omega (arith, (same-done e).1)
         ends (refused r i) e = unfold read_answer in (let z : ◌≡◌ {A = ℕ} 0 1 = cc in absurd (omega arith))
 
 module _ {h : Head} {room : ℕ} {s : List ℕ} {l : Layout} {from n : ℕ} {bs : List ℕ} {p m : ℕ} {st : List ℕ} where

@@ -21,6 +21,7 @@ use Rattle.table.specs.declared.Stretch.{Stretch}
 use Rattle.table.specs.declared.Way.{Way}
 use Rattle.table.specs.Parts.{Falls, Flat, node_step, rounds_step}
 use Rattle.table.proofs.Stretches.{rounds-end, flat-falls, flat-rounds}
+use Rattle.read_item.specs.declared.Inside.{Inside}
 use Rattle.read_item.specs.Entered.{Entered}
 use Rattle.read_item.specs.Entered as entered
 use Rattle.read_item.specs.Lay.{lay}
@@ -48,7 +49,8 @@ entered-sinks {h} sound {s} {l} {i} g below bs p m store e {to} {u} = go refl e
     go o halts k = let z : ◌≡◌ {A = ℕ} 0 1 = cc in absurd (omega arith)
     go o (enters {own}) k =
         let r = node_at s (record_of l i) in
-        let way : after_of l i r own.first ≡ to = cc in
+        let same : ◌≡◌ {A = Inside} (record { to = after_of l i r own.first; used = own.used }) (record { to = to; used = u }) = cc in
+        let way : after_of l i r own.first ≡ to = ap (λ r. r.to) same in
         let taken : h (node_kind r) (node_count r) p bs ≡ Took own = unfold own_of in o in
         let knows : is_known (following (node_kind r) own.first) (node_count r) ≡ true = sound.knows (node_kind r) (node_count r) p bs taken in
         let shorter : depth (node_shape s l i) ≤ suc (depth (node_shape s l i) - 1) = omega arith in

@@ -20,6 +20,8 @@ use Rattle.wire.specs.Answers.{rest_of, zeroed}
 use Rattle.laws.specs.Answered.{Reads}
 use Rattle.laws.proofs.Runs.{then-nothing}
 use Rattle.laws.proofs.Tables.{good-table}
+use Rattle.desk.specs.declared.NotOpened.{NotOpened}
+use Rattle.desk.specs.declared.NotOpened.TheVariants.{Refused as Left, ShortList as TooShort}
 use Rattle.desk.specs.OpenAnswer.{OpenAnswer}
 use Rattle.desk.specs.OpenAnswer.{Done, Refused, ShortList}
 use Rattle.desk.specs.Listed.{list_words, open_answer, open_rest, listed_answer, listed_store, list_after, ReadsListed}
@@ -110,13 +112,13 @@ module _ (message : List ℕ) (a : OpenAnswer) where
   unfolding open_rest
   rest-done e h = rw e h
 
-  pub rest-refused : {why : Refusal} {p n : ℕ} → a ≡ Refused why p n → [] ≡ open_rest message a
+  pub rest-none : {e : NotOpened} → a ≡ Err e → [] ≡ open_rest message a
   unfolding open_rest
-  rest-refused e = rw e
-
-  pub rest-short : a ≡ ShortList → [] ≡ open_rest message a
-  unfolding open_rest
-  rest-short e = rw e
+  rest-none {e} h = rw h (none e)
+    where
+      none : (e : NotOpened) → [] ≡ open_rest message (Err e)
+      none (Left why p n) = refl
+      none TooShort = refl
 
 -- ---- beside the first reader
 

@@ -18,9 +18,9 @@ ghost use Rattle.desk.specs.Listed.{open_rest, list_words, ReadsListed};
 ghost use Rattle.open.specs.Items.{held_at, width_word, holding, helds_of, leaving, unread, pending, Chain};
 ghost use Rattle.open.specs.Steps.{Leads, Rounds, Works, Opens};
 
-use wire::{Layout, Own, Reached, Refusal, RefusedAt, Stopped};
 use desk::NotOpened;
 use read_item::Inside;
+use wire::{Layout, Own, Reached, Refusal, RefusedAt, Stopped};
 
 // How far a step came: so many are left, of a row's numbers or of the open items.
 #[derive(Clone, Copy)]
@@ -91,95 +91,10 @@ fn hold(list: &mut [u64], i: usize, f: Held)
 fn clear(list: &mut [u64])
     ensures { list.new ≡ replicate (length list.old) 0 }
 {
-    let mut i = 0;
-    while i < list.len() {
-        list[i] = 0;
-        i = i + 1;
-    }
+    list.fill(0);
 }
 
-// ---- an item's own bytes
-//
-// They are taken by the leaves' functions, as `read_item` takes them: a second caller of `read_item::int_bytes` or of
-// `read_item::enter` would cost the first reader their inlining. Which bytes are right is said by `head` alone.
-
-// An integer that isn't of fixed size, read plainly, or that the kind is another.
-fn int_bytes(number: u8, part: &[u8]) -> Option<Result<Own, Refusal>>
-    ensures { TakesInt number part.now result }
-{
-    match number {
-        1 => Some(fixint::take8(part, true)),
-        2 => Some(leaf::unzigzag(varint::take_u16(part))),
-        3 => Some(leaf::unzigzag(varint::take_u32(part))),
-        4 => Some(leaf::unzigzag(varint::take(part, varint::U64::MOST, varint::U64::LAST))),
-        5 => Some(fixint::take8(part, false)),
-        6 => Some(varint::take_u16(part)),
-        7 => Some(varint::take_u32(part)),
-        8 => Some(varint::take(part, varint::U64::MOST, varint::U64::LAST)),
-        _ => None,
-    }
-}
-
-// The own bytes of an item that has children: so many, of which a variant's number names one.
-fn head_bytes(number: u8, count: usize, part: &[u8], place: usize) -> Result<Own, Refusal>
-    requires { IsInner number }
-    ensures { result ≡ head_of (kind_of number) count place part.now }
-{
-    match number {
-        15 => leaf::take_flag(part, Refusal::BadOption),
-        18 => Ok(Own {
-                first: 0,
-                second: 0,
-                used: 0,
-                shortest: true,
-            }),
-        19 => read_item::known(count, varint::take_u32(part)),
-        _ => varint::take(part, varint::U64::MOST, varint::U64::LAST),
-    }
-}
-
-// Whether a strict reading refuses an item that was taken, for its form.
-fn is_longer(strict: bool, shortest: bool) -> bool
-    ensures { result ≡ both strict (not shortest) }
-{
-    if strict {
-        return !shortest;
-    }
-    false
-}
-
-// The entry of an item that has children, and what follows.
-fn enter(
-    strict: bool,
-    table: &[u8],
-    l: Layout,
-    node: usize,
-    number: u8,
-    part: &[u8],
-    place: usize,
-    store: &mut [u64],
-    made: usize,
-) -> Result<Inside, Refusal>
-    requires good_table { GoodTable table.now l }
-    requires node_lt_nodes { node < l.nodes }
-    requires inner { Inner table.now l node number }
-    ensures { Enters l node (node_at table.now (record_of l node)) place made store.old (own_of (head_by strict) (node_at table.now (record_of l node)) (spot part.now place)) result store.new }
-{
-    let width = table::child_count(table, l, node);
-    let got = head_bytes(number, width, part, place);
-    match got {
-        Err(why) => Err(why),
-        Ok(own) => {
-            if is_longer(strict, own.shortest) {
-                return Err(Refusal::NotShortest);
-            }
-            entry::put(store, made, own.first, own.second, place);
-            let from = table::first_child(table, l, node);
-            let to = table::follow(number, own.first, from, width);
-            Ok(Inside { to, used: own.used })
-        }
-    }
-}
+// ---- a leaf
 
 // A leaf that has room: its entry, or why it is refused.
 fn read_leaf(
@@ -195,24 +110,8 @@ fn read_leaf(
     ensures { Puts place made store.old (judged strict (leaf_take_at number place part.now)) result store.new }
 {
     if !strict {
-        let int = int_bytes(number, part);
-        match int {
-            Some(item) => {
-                let got = read_item::lay(item, place, store, made);
-                // Made anew, so that it does not go through memory with other answers.
-                let Ok(Reached {
-                    place: behind,
-                    count,
-                }) = got
-                else {
-                    return got;
-                };
-                return Ok(Reached {
-                    place: behind,
-                    count,
-                });
-            }
-            None => {}
+        if let Some(item) = read_item::int_bytes(number, part) {
+            return read_item::lay(item, place, store, made);
         }
     }
     read_item::read_leaf(strict, number, part, place, store, made)
@@ -260,28 +159,13 @@ fn read_leaves(
                 count: sofar,
             });
         }
-        let got = read_leaf(strict, number, rest, at, store, sofar);
-        match got {
-            Err(Stopped {
-                why,
-                place: there,
-                count,
-            }) => {
-                return Err(Stopped {
-                    why,
-                    place: there,
-                    count,
-                });
-            }
-            Ok(Reached { place: next, count }) => {
-                let used = next - at;
-                rest = &rest[used..];
-                at = next;
-                sofar = count;
-                child = child + 2;
-                left = left - 1;
-            }
-        }
+        let Reached { place: next, count } = read_leaf(strict, number, rest, at, store, sofar)?;
+        let used = next - at;
+        rest = &rest[used..];
+        at = next;
+        sofar = count;
+        child = child + 2;
+        left = left - 1;
     }
     Ok(Turned {
         left: 0,
@@ -314,25 +198,18 @@ fn open_item(
     ensures { Opens (head_by strict) room table.now l node (helds_of list.old depth) part.now place made store.old result store.new list.new }
 {
     let number = table::kind_at(table, l, node);
-    let entered = enter(strict, table, l, node, number, part, place, store, made);
-    match entered {
+    match read_item::enter(strict, table, l, node, number, part, place, store, made) {
         Err(why) => Err(Stopped {
             why,
             place,
             count: made,
         }),
-        Ok(Inside { to, used }) => {
-            let after = place + used;
+        Ok(inside) => {
+            let to = inside.to;
+            let after = place + inside.used;
             let next = made + 1;
             // Nothing is held for no rounds, nor for a struct without fields, whose children would be below the longest chain.
-            if to.rounds == 0 {
-                return Ok(Turned {
-                    left: depth,
-                    place: after,
-                    count: next,
-                });
-            }
-            if to.width == 0 {
+            if to.rounds == 0 || to.width == 0 {
                 return Ok(Turned {
                     left: depth,
                     place: after,
@@ -420,8 +297,7 @@ fn next_round(
     requires rounds_nonzero { 0 < top.rounds }
     ensures { Rounds room top i place made store.old list.old result store.new list.new }
 {
-    let begun = reader::begin(top.headed, place, room, store, made);
-    let Some(ready) = begun else {
+    let Some(ready) = reader::begin(top.headed, place, room, store, made) else {
         return Err(Stopped {
             why: Refusal::Room,
             place,
@@ -472,17 +348,13 @@ fn turn(
     let i = depth - 1;
     let top = held_at(list, i);
     let child = top.from + 2 * (top.width - top.left);
-    let got = read_leaves(
-        strict, table, l, child, top.left, part, place, room, store, made,
-    );
-    let Ok(Turned {
+    let Turned {
         left,
         place: at,
         count,
-    }) = got
-    else {
-        return got;
-    };
+    } = read_leaves(
+        strict, table, l, child, top.left, part, place, room, store, made,
+    )?;
     let used = at - place;
     if 0 < left {
         return next_child(
@@ -530,19 +402,14 @@ fn work_off(
     let mut sofar = 0;
     let mut depth = 1;
     while 0 < depth {
-        let got = turn(strict, table, l, rest, at, room, store, sofar, list, depth);
-        match got {
-            Err(Stopped { why, place, count }) => {
-                return Err(Stopped { why, place, count });
-            }
-            Ok(Turned { left, place, count }) => {
-                let used = place - at;
-                rest = &rest[used..];
-                at = place;
-                sofar = count;
-                depth = left;
-            }
-        }
+        let Turned { left, place, count } = turn(
+            strict, table, l, rest, at, room, store, sofar, list, depth,
+        )?;
+        let used = place - at;
+        rest = &rest[used..];
+        at = place;
+        sofar = count;
+        depth = left;
     }
     Ok(Reached {
         place: at,
@@ -564,11 +431,10 @@ fn read_with(
     ensures { Gives (laid (read_by strict (check_of table.now) table.now (room_of store.old) message.now) 0 store.old) result store.new }
 {
     let room = entry::room(store.len());
-    let checked = table::check(table);
-    match checked {
-        Err(RefusedAt { why, place }) => Err(Stopped {
-            why,
-            place,
+    match table::check(table) {
+        Err(bad) => Err(Stopped {
+            why: bad.why,
+            place: bad.place,
             count: 0,
         }),
         Ok(layout) => {
@@ -605,8 +471,12 @@ fn read_and_clear(
     let got = read_with(strict, table, message, store, &mut list[0..words]);
     clear(&mut list[0..words]);
     match got {
-        Ok(Reached { place, count }) => Ok(Reached { place, count }),
-        Err(Stopped { why, place, count }) => Err(NotOpened::Refused { why, place, count }),
+        Ok(reached) => Ok(reached),
+        Err(stop) => Err(NotOpened::Refused {
+            why: stop.why,
+            place: stop.place,
+            count: stop.count,
+        }),
     }
 }
 
@@ -628,14 +498,24 @@ fn read_listed(
 
 // Reads a message by a table as `reader::read` does, with a lent list of open items, four words each. A list with room for
 // fewer than 256 is refused before all else, and nothing changes; else its first 1,024 words come back zero.
-pub fn read(table: &[u8], message: &[u8], store: &mut [u64], list: &mut [u64]) -> Result<Reached, NotOpened>
+pub fn read(
+    table: &[u8],
+    message: &[u8],
+    store: &mut [u64],
+    list: &mut [u64],
+) -> Result<Reached, NotOpened>
     ensures { ReadsListed (reads table.now message.now store.old) store.old list.old result store.new list.new }
 {
     read_listed(false, table, message, store, list)
 }
 
 // The same, as `reader::read_strict` does.
-pub fn read_strict(table: &[u8], message: &[u8], store: &mut [u64], list: &mut [u64]) -> Result<Reached, NotOpened>
+pub fn read_strict(
+    table: &[u8],
+    message: &[u8],
+    store: &mut [u64],
+    list: &mut [u64],
+) -> Result<Reached, NotOpened>
     ensures { ReadsListed (reads_strict table.now message.now store.old) store.old list.old result store.new list.new }
 {
     read_listed(true, table, message, store, list)
@@ -646,12 +526,7 @@ pub fn rest<'a>(message: &'a [u8], answer: Result<Reached, NotOpened>) -> &'a [u
     ensures { result.now ≡ open_rest message.now answer }
 {
     match answer {
-        Ok(Reached { place, count: _ }) => { tail::from(message, place) }
-        Err(NotOpened::Refused {
-            why: _,
-            place: _,
-            count: _,
-        }) => &message[0..0],
-        Err(NotOpened::ShortList) => &message[0..0],
+        Ok(reached) => tail::from(message, reached.place),
+        Err(_) => &message[0..0],
     }
 }

@@ -1,8 +1,7 @@
 // One item of a message: its own bytes, and its entry, which is stored where the store has words for it.
 #![tactic(auto)]
 
-ghost use Rattle.std.specs.Prelude.{◌≡◌, not, ◌+◌, ◌^◌, ◌<◌, length};
-ghost use Rattle.wire.specs.Tests.{both};
+ghost use Rattle.std.specs.Prelude.{◌≡◌, ◌+◌, ◌^◌, ◌<◌, length};
 ghost use Rattle.wire.specs.Table.{kind_of, node_at, record_of};
 ghost use Rattle.wire.specs.Reading.{known as known_of, head as head_of, judged, head_by};
 ghost use Rattle.laws.specs.KindRanges.{IsInner};
@@ -26,17 +25,9 @@ pub struct Inside {
 pub fn known(count: usize, got: Result<Own, Refusal>) -> Result<Own, Refusal>
     ensures { result ≡ known_of count got }
 {
-    let Ok(own) = got else {
-        return got;
-    };
+    let own = got?;
     if own.first < count as u64 {
-        // Made anew, so that it stays in registers.
-        return Ok(Own {
-            first: own.first,
-            second: own.second,
-            used: own.used,
-            shortest: own.shortest,
-        });
+        return Ok(own);
     }
     Err(Refusal::Variant)
 }
@@ -61,40 +52,23 @@ fn head_bytes(number: u8, count: usize, part: &[u8], place: usize) -> Result<Own
 
 // ---- forms
 
-// Whether a strict reading refuses an item that was taken, for its form.
-fn is_longer(strict: bool, shortest: bool) -> bool
-    ensures { result ≡ both strict (not shortest) }
-{
-    if strict {
-        return !shortest;
-    }
-    false
-}
-
 // An item as a strict reading takes it, or as the plain one does: a form that isn't the shortest is refused, after every other
-// refusal of the item. It is made anew, so that one that a call left in memory goes on in registers.
+// refusal of the item.
 fn judge(strict: bool, got: Result<Own, Refusal>) -> Result<Own, Refusal>
     ensures { result ≡ judged strict got }
 {
-    let Ok(own) = got else {
-        return got;
-    };
-    if is_longer(strict, own.shortest) {
+    let own = got?;
+    if strict && !own.shortest {
         return Err(Refusal::NotShortest);
     }
-    Ok(Own {
-        shortest: own.shortest,
-        first: own.first,
-        second: own.second,
-        used: own.used,
-    })
+    Ok(own)
 }
 
 // ---- a leaf
 
-// An integer, read plainly. It is taken here, as `leaf::take` does it: that has several callers and so stays a call, which
-// costs more than most integers. It is apart from other leaves and from strict readings, whose items come by that call,
-// since it is what most messages hold most of; and it finds out whether it is one by the same step that takes it.
+// An integer, read plainly, or that the kind is another's. It is apart from other leaves and from strict readings, since it is
+// what most messages hold most of; and it is inlined, since a call costs more than most integers.
+#[inline(always)]
 pub fn int_bytes(number: u8, part: &[u8]) -> Option<Result<Own, Refusal>>
     ensures { TakesInt number part.now result }
 {
@@ -131,10 +105,9 @@ pub fn lay(
         Ok(own) => {
             entry::put(store, made, own.first, own.second, place);
             let behind = place + own.used;
-            let count = made + 1;
             Ok(Reached {
                 place: behind,
-                count,
+                count: made + 1,
             })
         }
     }
@@ -160,6 +133,7 @@ pub fn read_leaf(
 // ---- an item that has children
 
 // The entry of an item that has children, and what follows.
+#[inline(always)]
 pub fn enter(
     strict: bool,
     table: &[u8],
@@ -177,17 +151,9 @@ pub fn enter(
     ensures { Enters l node (node_at table.now (record_of l node)) place made store.old (own_of (head_by strict) (node_at table.now (record_of l node)) (spot part.now place)) result store.new }
 {
     let width = table::child_count(table, l, node);
-    let got = head_bytes(number, width, part, place);
-    match got {
-        Err(why) => Err(why),
-        Ok(own) => {
-            if is_longer(strict, own.shortest) {
-                return Err(Refusal::NotShortest);
-            }
-            entry::put(store, made, own.first, own.second, place);
-            let from = table::first_child(table, l, node);
-            let to = table::follow(number, own.first, from, width);
-            Ok(Inside { to, used: own.used })
-        }
-    }
+    let own = judge(strict, head_bytes(number, width, part, place))?;
+    entry::put(store, made, own.first, own.second, place);
+    let from = table::first_child(table, l, node);
+    let to = table::follow(number, own.first, from, width);
+    Ok(Inside { to, used: own.used })
 }

@@ -3,7 +3,7 @@
 
 ghost use Rattle.std.specs.Prelude.{◌≡◌, true, false, [], ◌+◌, ◌≤◌, length, ltb, leb};
 ghost use Rattle.wire.specs.Tests.{both};
-ghost use Rattle.wire.specs.Shape.{bits, size, w16, w32, w64, unsigned};
+ghost use Rattle.wire.specs.Shape.{bits, size, unsigned};
 ghost use Rattle.wire.specs.Numbers.{is_word, little_bytes, in_order};
 ghost use Rattle.wire.specs.Text.{is_char, char_bytes};
 ghost use Rattle.wire.specs.Table.{kind_of};
@@ -69,50 +69,14 @@ fn is_sixth(k: u8, first: u64) -> bool
     }
 }
 
-fn two(first: u64, big: bool) -> [u8; 2]
-    ensures { result ≡ in_order (order_of big) (little_bytes (size w16) first) }
-{
-    if big {
-        return fixint::be2(first);
-    }
-    fixint::le2(first)
-}
-
-fn four(first: u64, big: bool) -> [u8; 4]
-    ensures { result ≡ in_order (order_of big) (little_bytes (size w32) first) }
-{
-    if big {
-        return fixint::be4(first);
-    }
-    fixint::le4(first)
-}
-
-fn eight(first: u64, big: bool) -> [u8; 8]
-    ensures { result ≡ in_order (order_of big) (little_bytes (size w64) first) }
-{
-    if big {
-        return fixint::be8(first);
-    }
-    fixint::le8(first)
-}
-
 // The bytes of a number of the k-th, of fixed size.
 fn put_sixth(k: u8, big: bool, first: u64, out: &mut [u8], used: usize) -> usize
     ensures { Puts (in_order (order_of big) (little_bytes (size (width_at k)) first)) used out.old result out.new }
 {
     match k % 3 {
-        0 => {
-            let a = two(first, big);
-            output::put_bytes(&a, out, used)
-        }
-        1 => {
-            let a = four(first, big);
-            output::put_bytes(&a, out, used)
-        }
-        _ => {
-            let a = eight(first, big);
-            output::put_bytes(&a, out, used)
-        }
+        0 => output::put_bytes(&fixint::bytes::<2>(first, big), out, used),
+        1 => output::put_bytes(&fixint::bytes::<4>(first, big), out, used),
+        _ => output::put_bytes(&fixint::bytes::<8>(first, big), out, used),
     }
 }
 

@@ -44,10 +44,7 @@ fn width(widths: &[[u8; 16]; 16], lead: u8) -> u8
 fn is_in(b: u8, low: u8, high: u8) -> bool
     ensures { result ≡ both (leb low b) (leb b high) }
 {
-    if b < low {
-        return false;
-    }
-    b <= high
+    low <= b && b <= high
 }
 
 // Whether a byte may follow a lead byte: four of them leave only a part of 80 to BF. By two short matches, of which the
@@ -227,10 +224,7 @@ fn lead_part(b: u8) -> u64
 fn over(b: u8) -> u64
     ensures { result ≡ over_of b }
 {
-    if b < 0x80 {
-        return 0;
-    }
-    (b - 0x80) as u64
+    b.saturating_sub(0x80) as u64
 }
 
 // The code point that a text starts with.
@@ -248,14 +242,8 @@ pub fn first_char(s: &[u8]) -> u64
     }
     let widths = all_widths();
     let wide = width(&widths, lead) as usize;
-    let mut i: usize = 1;
-    while i < wide {
-        if s.len() <= i {
-            return value;
-        }
-        let x = over(s[i]);
-        value = 64 * value + x;
-        i = i + 1;
+    for i in 1..wide.min(s.len()) {
+        value = 64 * value + over(s[i]);
     }
     value
 }
@@ -264,13 +252,7 @@ pub fn first_char(s: &[u8]) -> u64
 pub fn is_char(c: u64) -> bool
     ensures { result ≡ is_char c }
 {
-    if c < 0xd800 {
-        return true;
-    }
-    if c < 0xe000 {
-        return false;
-    }
-    c < 0x110000
+    c < 0xd800 || 0xe000 <= c && c < 0x110000
 }
 
 // The bytes of a code point, with zeros behind them; none where it is no char.
@@ -322,12 +304,12 @@ fn form(c: u64) -> CharBytes
 pub fn char_bytes(c: u64) -> CharBytes
     ensures { Form c result.bytes result.len }
 {
-    let is = is_char(c);
-    if is {
-        return form(c);
-    }
-    CharBytes {
-        bytes: [0, 0, 0, 0],
-        len: 0,
+    if is_char(c) {
+        form(c)
+    } else {
+        CharBytes {
+            bytes: [0; 4],
+            len: 0,
+        }
     }
 }

@@ -15,6 +15,7 @@ ghost use Rattle.write_list.specs.Steps.{entries, write_leaf, Sure, Keeps, Gives
 
 use Pooled;
 use table::Stretch;
+use varint::Width;
 use wire::Layout;
 
 // How far a list is put: its next entry, and the bytes.

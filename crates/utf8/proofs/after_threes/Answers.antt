@@ -1,7 +1,7 @@
 -- `utf8::after_threes` meets its contract: the loop's invariant is that what is to be said of the rest stays.
 -- Assumes nothing.
 use mathlib.Core.Path.{refl, sym, ◌∙◌}
-use Prim.Native.Nat.{◌+◌, ◌-◌}
+use Prim.Native.Nat.{◌+◌}
 use native.Mathlib.Omega.{arith}
 use Rattle.laws.proofs.Utf8.{width_three}
 use Rattle.singles.proofs.Passed.{here}

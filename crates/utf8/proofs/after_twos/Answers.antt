@@ -1,7 +1,6 @@
 -- `utf8::after_twos` meets its contract: the loop's invariant is that what is to be said of the rest stays.
 -- Assumes nothing.
 use mathlib.Core.Path.{refl, sym, ◌∙◌}
-use Prim.Native.Nat.{◌-◌}
 use native.Mathlib.Omega.{arith}
 use Rattle.laws.proofs.Utf8.{width_two}
 use Rattle.singles.proofs.Passed.{here}

@@ -74,16 +74,8 @@ fn after_twos(s: &[u8], from: usize) -> usize
     ensures { Behind s.now from result }
 {
     let mut i = from;
-    while 2 <= s.len() - i {
-        let lead = is_in(s[i], 0xc2, 0xdf);
-        if !lead {
-            return i;
-        }
-        let second = is_in(s[i + 1], 0x80, 0xbf);
-        if !second {
-            return i;
-        }
-        i = i + 2;
+    while 2 <= s.len() - i && is_in(s[i], 0xc2, 0xdf) && is_in(s[i + 1], 0x80, 0xbf) {
+        i += 2;
     }
     i
 }
@@ -102,11 +94,7 @@ fn starts_three(s: &[u8], at: usize) -> bool
     if lead < 0xe0 {
         return false;
     }
-    let second = is_second(lead, s[at + 1]);
-    if !second {
-        return false;
-    }
-    lead < 0xf0
+    is_second(lead, s[at + 1]) && lead < 0xf0
 }
 
 // A place behind sequences of three bytes only, likewise.
@@ -115,16 +103,8 @@ fn after_threes(s: &[u8], from: usize) -> usize
     ensures { Behind s.now from result }
 {
     let mut i = from;
-    while 3 <= s.len() - i {
-        let starts = starts_three(s, i);
-        if !starts {
-            return i;
-        }
-        let third = is_in(s[i + 2], 0x80, 0xbf);
-        if !third {
-            return i;
-        }
-        i = i + 3;
+    while 3 <= s.len() - i && starts_three(s, i) && is_in(s[i + 2], 0x80, 0xbf) {
+        i += 3;
     }
     i
 }
@@ -135,25 +115,13 @@ fn after_fours(s: &[u8], from: usize) -> usize
     ensures { Behind s.now from result }
 {
     let mut i = from;
-    while 4 <= s.len() - i {
-        let lead = s[i];
-        let is = is_in(lead, 0xf0, 0xf4);
-        if !is {
-            return i;
-        }
-        let second = is_second(lead, s[i + 1]);
-        if !second {
-            return i;
-        }
-        let third = is_in(s[i + 2], 0x80, 0xbf);
-        if !third {
-            return i;
-        }
-        let fourth = is_in(s[i + 3], 0x80, 0xbf);
-        if !fourth {
-            return i;
-        }
-        i = i + 4;
+    while 4 <= s.len() - i
+        && is_in(s[i], 0xf0, 0xf4)
+        && is_second(s[i], s[i + 1])
+        && is_in(s[i + 2], 0x80, 0xbf)
+        && is_in(s[i + 3], 0x80, 0xbf)
+    {
+        i += 4;
     }
     i
 }

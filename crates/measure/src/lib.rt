@@ -8,13 +8,11 @@ fn sum<W: Width>(message: &[u8]) -> u64 {
     let mut sum: u64 = 0;
     let mut rest = message;
     while 0 < rest.len() {
-        let got = varint::take::<W>(rest);
-        let Ok(own) = got else {
+        let Ok(own) = varint::take::<W>(rest) else {
             return sum;
         };
         sum = std::num::wrapping_add_u64(sum, own.first);
-        let used = own.used;
-        rest = &rest[used..];
+        rest = &rest[own.used..];
     }
     sum
 }

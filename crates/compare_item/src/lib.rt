@@ -136,8 +136,8 @@ fn take_int(number: u8, part: &[u8], other: &[u8]) -> Option<Sides>
         1 => both(fixint::take8(part, true), fixint::take8(other, true)),
         5 => both(fixint::take8(part, false), fixint::take8(other, false)),
         _ => both(
-            varint::take(part, varint::U64::MOST, varint::U64::LAST),
-            varint::take(other, varint::U64::MOST, varint::U64::LAST),
+            varint::take::<varint::U64>(part),
+            varint::take::<varint::U64>(other),
         ),
     }
 }
@@ -195,7 +195,7 @@ fn inner_bytes(number: u8, count: usize, part: &[u8], place: usize) -> Result<Ow
             shortest: true,
         }),
         19 => read_item::known(count, varint::take_u32(part)),
-        _ => varint::take(part, varint::U64::MOST, varint::U64::LAST),
+        _ => varint::take::<varint::U64>(part),
     }
 }
 

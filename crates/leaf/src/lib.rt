@@ -90,7 +90,7 @@ fn signed(kind: u8, part: &[u8]) -> Result<Own, Refusal>
         1 => fixint::take8(part, true),
         2 => unzigzag(varint::take_u16(part)),
         3 => unzigzag(varint::take_u32(part)),
-        _ => unzigzag(varint::take(part, varint::U64::MOST, varint::U64::LAST)),
+        _ => unzigzag(varint::take::<varint::U64>(part)),
     }
 }
 
@@ -103,7 +103,7 @@ fn unsigned(kind: u8, part: &[u8]) -> Result<Own, Refusal>
         5 => fixint::take8(part, false),
         6 => varint::take_u16(part),
         7 => varint::take_u32(part),
-        _ => varint::take(part, varint::U64::MOST, varint::U64::LAST),
+        _ => varint::take::<varint::U64>(part),
     }
 }
 

@@ -17,6 +17,7 @@ ghost use Rattle.messages.specs.Fields.{keys_of, key_width, IsKey, KeyedBy, Orde
 ghost use Rattle.messages.specs.Steps.{Words, next_answer};
 ghost use Rattle.messages.specs.Past.{last_of, MostOf, PastVarint, PastInts, PastKey, PastKeys};
 
+use varint::Width;
 use wire::{Layout, Own, Reached, Refusal, RefusedAt, Stopped};
 use desk::Key;
 
@@ -94,7 +95,7 @@ fn take_word(narrow: bool, part: &[u8]) -> Result<Own, Refusal>
     if narrow {
         return varint::take_u32(part);
     }
-    varint::take(part, varint::U64::MOST, varint::U64::LAST)
+    varint::take::<varint::U64>(part)
 }
 
 // The key field behind so many others, from where a reading stands.

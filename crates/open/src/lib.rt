@@ -94,7 +94,92 @@ fn clear(list: &mut [u64])
     list.fill(0);
 }
 
+<<<<<<< HEAD
 // ---- a leaf
+=======
+// ---- an item's own bytes
+//
+// They are taken by the leaves' functions, as `read_item` takes them: a second caller of `read_item::int_bytes` or of
+// `read_item::enter` would cost the first reader their inlining. Which bytes are right is said by `head` alone.
+
+// An integer that isn't of fixed size, read plainly, or that the kind is another.
+fn int_bytes(number: u8, part: &[u8]) -> Option<Result<Own, Refusal>>
+    ensures { TakesInt number part.now result }
+{
+    match number {
+        1 => Some(fixint::take8(part, true)),
+        2 => Some(leaf::unzigzag(varint::take_u16(part))),
+        3 => Some(leaf::unzigzag(varint::take_u32(part))),
+        4 => Some(leaf::unzigzag(varint::take::<varint::U64>(part))),
+        5 => Some(fixint::take8(part, false)),
+        6 => Some(varint::take_u16(part)),
+        7 => Some(varint::take_u32(part)),
+        8 => Some(varint::take::<varint::U64>(part)),
+        _ => None,
+    }
+}
+
+// The own bytes of an item that has children: so many, of which a variant's number names one.
+fn head_bytes(number: u8, count: usize, part: &[u8], place: usize) -> Result<Own, Refusal>
+    requires { IsInner number }
+    ensures { result ≡ head_of (kind_of number) count place part.now }
+{
+    match number {
+        15 => leaf::take_flag(part, Refusal::BadOption),
+        18 => Ok(Own {
+                first: 0,
+                second: 0,
+                used: 0,
+                shortest: true,
+            }),
+        19 => read_item::known(count, varint::take_u32(part)),
+        _ => varint::take::<varint::U64>(part),
+    }
+}
+
+// Whether a strict reading refuses an item that was taken, for its form.
+fn is_longer(strict: bool, shortest: bool) -> bool
+    ensures { result ≡ both strict (not shortest) }
+{
+    if strict {
+        return !shortest;
+    }
+    false
+}
+
+// The entry of an item that has children, and what follows.
+fn enter(
+    strict: bool,
+    table: &[u8],
+    l: Layout,
+    node: usize,
+    number: u8,
+    part: &[u8],
+    place: usize,
+    store: &mut [u64],
+    made: usize,
+) -> Result<Inside, Refusal>
+    requires good_table { GoodTable table.now l }
+    requires node_lt_nodes { node < l.nodes }
+    requires inner { Inner table.now l node number }
+    ensures { Enters l node (node_at table.now (record_of l node)) place made store.old (own_of (head_by strict) (node_at table.now (record_of l node)) (spot part.now place)) result store.new }
+{
+    let width = table::child_count(table, l, node);
+    let got = head_bytes(number, width, part, place);
+    match got {
+        Err(why) => Err(why),
+        Ok(own) => {
+            if is_longer(strict, own.shortest) {
+                return Err(Refusal::NotShortest);
+            }
+            entry::put(store, made, own.first, own.second, place);
+            let from = table::first_child(table, l, node);
+            let to = table::follow(number, own.first, from, width);
+            Ok(Inside { to, used: own.used })
+        }
+    }
+}
+>>>>>>> low
 
 // A leaf that has room: its entry, or why it is refused.
 fn read_leaf(

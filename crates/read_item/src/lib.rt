@@ -46,7 +46,7 @@ fn head_bytes(number: u8, count: usize, part: &[u8], place: usize) -> Result<Own
             shortest: true,
         }),
         19 => known(count, varint::take_u32(part)),
-        _ => varint::take(part, varint::U64::MOST, varint::U64::LAST),
+        _ => varint::take::<varint::U64>(part),
     }
 }
 
@@ -76,11 +76,11 @@ pub fn int_bytes(number: u8, part: &[u8]) -> Option<Result<Own, Refusal>>
         1 => Some(fixint::take8(part, true)),
         2 => Some(leaf::unzigzag(varint::take_u16(part))),
         3 => Some(leaf::unzigzag(varint::take_u32(part))),
-        4 => Some(leaf::unzigzag(varint::take(part, varint::U64::MOST, varint::U64::LAST))),
+        4 => Some(leaf::unzigzag(varint::take::<varint::U64>(part))),
         5 => Some(fixint::take8(part, false)),
         6 => Some(varint::take_u16(part)),
         7 => Some(varint::take_u32(part)),
-        8 => Some(varint::take(part, varint::U64::MOST, varint::U64::LAST)),
+        8 => Some(varint::take::<varint::U64>(part)),
         _ => None,
     }
 }

@@ -26,16 +26,6 @@ fn char_size(c: u64) -> usize
     4
 }
 
-// Whether a char in so many bytes is in its shortest form, if their count is.
-fn is_shortest(counted: bool, n: usize, c: u64) -> bool
-    ensures { result ≡ both counted (eqb n (length (char_bytes c))) }
-{
-    if counted {
-        return n == char_size(c);
-    }
-    false
-}
-
 // A char behind the count of its bytes.
 fn char_of(part: &[u8], count: Own) -> Result<Own, Refusal>
     requires { count.used + length part.now < 2 ^ 64 }
@@ -52,18 +42,15 @@ fn char_of(part: &[u8], count: Own) -> Result<Own, Refusal>
         return Err(Refusal::BadChar);
     }
     let bytes = &part[..n];
-    let ok = utf8::is_text(bytes);
-    if !ok {
+    if !utf8::is_text(bytes) {
         return Err(Refusal::BadChar);
     }
     let first = utf8::first_char(bytes);
-    let shortest = is_shortest(count.shortest, n, first);
-    let used = count.used + n;
     Ok(Own {
         first,
         second: 0,
-        used,
-        shortest,
+        used: count.used + n,
+        shortest: count.shortest && n == char_size(first),
     })
 }
 
@@ -71,22 +58,15 @@ fn char_of(part: &[u8], count: Own) -> Result<Own, Refusal>
 pub fn take_char(part: &[u8]) -> Result<Own, Refusal>
     ensures { result ≡ read_plain char part.now }
 {
-    let got = varint::take(part, varint::U64::MOST, varint::U64::LAST);
-    let Ok(own) = got else {
-        return got;
-    };
-    let used = own.used;
-    char_of(&part[used..], own)
+    let count = varint::take::<varint::U64>(part)?;
+    char_of(&part[count.used..], count)
 }
 
 // Whether bytes may be a content: a text must be UTF-8, and anything else may be any bytes.
 pub fn is_content(part: &[u8], text: bool) -> bool
     ensures { result ≡ is_content (content_if text) part.now }
 {
-    if text {
-        return utf8::is_text(part);
-    }
-    true
+    !text || utf8::is_text(part)
 }
 
 // A text or bytes behind their count. The offset is counted from the count's first byte.
@@ -98,15 +78,13 @@ fn content_of(part: &[u8], count: Own, text: bool) -> Result<Own, Refusal>
         return Err(Refusal::End);
     }
     let n = count.first as usize;
-    let end = count.used + n;
-    let ok = is_content(&part[..n], text);
-    if !ok {
+    if !is_content(&part[..n], text) {
         return Err(Refusal::BadUtf8);
     }
     Ok(Own {
         first: count.used as u64,
         second: count.first,
-        used: end,
+        used: count.used + n,
         shortest: count.shortest,
     })
 }
@@ -115,10 +93,6 @@ fn content_of(part: &[u8], count: Own, text: bool) -> Result<Own, Refusal>
 pub fn take_content(part: &[u8], text: bool) -> Result<Own, Refusal>
     ensures { result ≡ head (pooled (content_if text)) 0 0 part.now }
 {
-    let got = varint::take(part, varint::U64::MOST, varint::U64::LAST);
-    let Ok(own) = got else {
-        return got;
-    };
-    let used = own.used;
-    content_of(&part[used..], own, text)
+    let count = varint::take::<varint::U64>(part)?;
+    content_of(&part[count.used..], count, text)
 }

@@ -21,6 +21,9 @@ takes k top s = pick (ltb top (limit_of k)) (varint_f k top s) (Refused BadVarin
 unfoldable pub ends_short : (used b : ℕ) → Bool
 ends_short used b = pick (eqb used 1) true (ltb 0 b)
 
+abbrev pub spelled_by : (first used b : ℕ) → Own
+spelled_by first used b = record { first = first; second = 0; used = used; shortest = ends_short used b }
+
 -- and so it is said of what is taken
 abbrev pub ShortestByLast : Type 0
 ShortestByLast = (k top : ℕ) (s : List ℕ) (own : Own) → takes k top s ≡ Took own → own.shortest ≡ ends_short own.used (get_or s (own.used - 1) 0)

@@ -14,6 +14,7 @@ ghost use Rattle.table.specs.Parts.{Falls, node_step, row_step, rounds_step};
 ghost use Rattle.write_list.specs.Steps.{entries, write_leaf, Sure, Keeps, Gives, Enters, Begins, Leads, Leaf, Reaches, Nothing};
 
 use table::Stretch;
+use varint::Width;
 use wire::Layout;
 
 // How far a list is put: its next entry, and the bytes.

@@ -1,14 +1,14 @@
--- `varint::is_shortest` meets its contract: the choice is the code's.
+-- `varint::ended` meets its contract: the choice is the code's.
 -- Assumes nothing.
 use borrow.Author.Tests.{eq-eqb, ne_eqb}
 use Rattle.wire.specs.Tests.{pick}
 use Rattle.varint.specs.Takes.{ends_short}
-use Rattle.varint.proofs.is_shortest.Goals as goal
+use Rattle.varint.proofs.ended.Goals as goal
 
 pub returns-then-used-eq1 : goal.returns-then-used-eq1
 unfolding ends_short pick
 returns-then-used-eq1 c = rw (eq-eqb _ _ c.if-used-eq1.true)
 
-pub returns : goal.returns
+pub returns-else-used-eq1 : goal.returns-else-used-eq1
 unfolding ends_short pick
-returns c = rw (ne_eqb _ _ c.if-used-eq1.false)
+returns-else-used-eq1 c = rw (ne_eqb _ _ c.if-used-eq1.false)

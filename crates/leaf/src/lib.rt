@@ -18,7 +18,7 @@ const LARGEST: usize = 0xffff_ffff_ffff_ffff;
 pub fn take_flag(part: &[u8], why: Refusal) -> Result<Own, Refusal>
     ensures { result ≡ flag why part.now }
 {
-    if part.len() == 0 {
+    if part.is_empty() {
         return Err(Refusal::End);
     }
     let b = part[0] as u64;
@@ -37,31 +37,11 @@ pub fn take_flag(part: &[u8], why: Refusal) -> Result<Own, Refusal>
 pub fn unzigzag(got: Result<Own, Refusal>) -> Result<Own, Refusal>
     ensures { result ≡ numbers.on_first (numbers.unzigzagged shapes.signed) got }
 {
-    let Ok(own) = got else {
-        return got;
-    };
-    let word = zigzag::unzigzag(own.first);
+    let own = got?;
     Ok(Own {
-        first: word,
-        second: own.second,
-        used: own.used,
-        shortest: own.shortest,
+        first: zigzag::unzigzag(own.first),
+        ..own
     })
-}
-
-// The same item, made anew: one that a call left in memory then meets those of other arms in registers.
-pub fn anew(got: Result<Own, Refusal>) -> Result<Own, Refusal>
-    ensures { result ≡ got }
-{
-    match got {
-        Err(why) => Err(why),
-        Ok(own) => Ok(Own {
-            shortest: own.shortest,
-            first: own.first,
-            second: own.second,
-            used: own.used,
-        }),
-    }
 }
 
 // The item whose offset, counted from `place`, was taken.
@@ -69,15 +49,10 @@ fn at_place(got: Result<Own, Refusal>, place: usize) -> Result<Own, Refusal>
     requires { Within place got }
     ensures { result ≡ numbers.on_first (λ a. place + a) got }
 {
-    let Ok(own) = got else {
-        return got;
-    };
-    let offset = place as u64 + own.first;
+    let own = got?;
     Ok(Own {
-        first: offset,
-        second: own.second,
-        used: own.used,
-        shortest: own.shortest,
+        first: place as u64 + own.first,
+        ..own
     })
 }
 
@@ -175,6 +150,7 @@ pub fn take(kind: u8, part: &[u8], place: usize) -> Result<Own, Refusal>
         0 => take_flag(part, Refusal::BadBool),
         1..=4 => signed(kind, part),
         5..=8 => unsigned(kind, part),
-        _ => anew(others(kind, part, place)),
+        // taken apart and made anew, so that it meets the items of the other arms in registers
+        _ => Ok(others(kind, part, place)?),
     }
 }

@@ -13,7 +13,7 @@ ghost use Rattle.read_item.specs.Steps.{spot, Inner};
 ghost use Rattle.reader.specs.Steps.{Gives, answer_behind, Begins};
 
 use read_item::Inside;
-use wire::{Layout, Reached, Refusal, RefusedAt, Stopped};
+use wire::{Layout, Reached, Refusal, Stopped};
 
 // ---- rounds
 
@@ -246,9 +246,9 @@ fn read_with(
 {
     let checked = table::check(table);
     match checked {
-        Err(RefusedAt { why, place }) => Err(Stopped {
-            why,
-            place,
+        Err(bad) => Err(Stopped {
+            why: bad.why,
+            place: bad.place,
             count: 0,
         }),
         Ok(layout) => {
@@ -280,9 +280,9 @@ pub fn read(table: &[u8], message: &[u8], store: &mut [u64]) -> Result<Reached, 
 {
     let checked = table::check(table);
     match checked {
-        Err(RefusedAt { why, place }) => Err(Stopped {
-            why,
-            place,
+        Err(bad) => Err(Stopped {
+            why: bad.why,
+            place: bad.place,
             count: 0,
         }),
         Ok(layout) => {
@@ -294,11 +294,9 @@ pub fn read(table: &[u8], message: &[u8], store: &mut [u64]) -> Result<Reached, 
             if !way.headed {
                 let node = table::u16_at(table, root);
                 let number = table::kind_at(table, layout, node);
-                if !table::is_inner(number) {
-                    if 0 < room {
-                        let item = leaf::take(number, message, 0);
-                        return read_item::lay(item, 0, store, 0);
-                    }
+                if 0 < room && !table::is_inner(number) {
+                    let item = leaf::take(number, message, 0);
+                    return read_item::lay(item, 0, store, 0);
                 }
             }
             read_rounds(
@@ -401,13 +399,7 @@ pub fn rest<'a>(message: &'a [u8], answer: Result<Reached, Stopped>) -> &'a [u8]
     ensures { result.now ≡ rest_of message.now answer }
 {
     match answer {
-        Ok(Reached { place, count: _ }) => { tail::from(message, place) }
-        Err(
-            Stopped {
-                why: _,
-                place: _,
-                count: _,
-            },
-        ) => &message[0..0],
+        Ok(reached) => tail::from(message, reached.place),
+        Err(_) => &message[0..0],
     }
 }

@@ -2,8 +2,7 @@
 #![tactic(auto)]
 
 ghost use Rattle.std.specs.Prelude.{◌≡◌, ◌*◌, ◌^◌, ◌<◌, ◌≤◌, length};
-ghost use Rattle.std.proofs.Math.ListN as lists;
-ghost use Rattle.wire.specs.Shape.{w16, w32, w64, size, le, be, fixed};
+ghost use Rattle.wire.specs.Shape.{w16, w32, w64, fixed};
 ghost use Rattle.wire.specs.Numbers.{little, little_bytes, in_order};
 ghost use Rattle.wire.specs.Numbers as numbers;
 ghost use Rattle.wire.specs.Reading.{read_plain};
@@ -11,7 +10,7 @@ ghost use Rattle.fixint.specs.Sizes.{order_of, sign_of, byte_of, IsSize, number_
 
 use wire::{Own, Refusal};
 
-// The lowest N bytes of a word.
+// The lowest N bytes of a word, the lowest of them first or last.
 pub fn bytes<const N: usize>(x: u64, big: bool) -> [u8; N]
     requires { N ≤ 8 }
     ensures { result ≡ in_order (order_of big) (little_bytes N x) }
@@ -25,7 +24,7 @@ pub fn bytes<const N: usize>(x: u64, big: bool) -> [u8; N]
     bytes
 }
 
-// The number that N bytes are.
+// The number that N bytes are, with zeros for the bytes that a word has besides.
 fn number<const N: usize>(part: &[u8], big: bool) -> u64
     requires { (length part.now ≡ N) × (N ≤ 8) }
     ensures { result ≡ little (in_order (order_of big) part.now) }

@@ -1,8 +1,7 @@
 // The items that hold text: a char, a text, and bytes, each behind a count.
 #![tactic(auto)]
 
-ghost use Rattle.std.specs.Prelude.{◌≡◌, ◌+◌, ◌<◌, ◌^◌, eqb, length};
-ghost use Rattle.wire.specs.Tests.{both};
+ghost use Rattle.std.specs.Prelude.{◌≡◌, ◌+◌, ◌<◌, ◌^◌, length};
 ghost use Rattle.wire.specs.Text.{char_bytes};
 ghost use Rattle.wire.specs.Shape.{char, pooled};
 ghost use Rattle.wire.specs.Reading.{char_of, is_content, content_of, read_plain, head};

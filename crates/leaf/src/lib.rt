@@ -37,7 +37,9 @@ pub fn take_flag(part: &[u8], why: Refusal) -> Result<Own, Refusal>
 pub fn unzigzag(got: Result<Own, Refusal>) -> Result<Own, Refusal>
     ensures { result ≡ numbers.on_first (numbers.unzigzagged shapes.signed) got }
 {
-    let own = got?;
+    let Ok(own) = got else {
+        return got;
+    };
     Ok(Own {
         first: zigzag::unzigzag(own.first),
         ..own
@@ -49,7 +51,9 @@ fn at_place(got: Result<Own, Refusal>, place: usize) -> Result<Own, Refusal>
     requires { Within place got }
     ensures { result ≡ numbers.on_first (λ a. place + a) got }
 {
-    let own = got?;
+    let Ok(own) = got else {
+        return got;
+    };
     Ok(Own {
         first: place as u64 + own.first,
         ..own

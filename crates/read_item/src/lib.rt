@@ -25,7 +25,9 @@ pub struct Inside {
 pub fn known(count: usize, got: Result<Own, Refusal>) -> Result<Own, Refusal>
     ensures { result ≡ known_of count got }
 {
-    let own = got?;
+    let Ok(own) = got else {
+        return got;
+    };
     if own.first < count as u64 {
         return Ok(own);
     }
@@ -57,7 +59,9 @@ fn head_bytes(number: u8, count: usize, part: &[u8], place: usize) -> Result<Own
 fn judge(strict: bool, got: Result<Own, Refusal>) -> Result<Own, Refusal>
     ensures { result ≡ judged strict got }
 {
-    let own = got?;
+    let Ok(own) = got else {
+        return got;
+    };
     if strict && !own.shortest {
         return Err(Refusal::NotShortest);
     }

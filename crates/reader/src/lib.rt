@@ -170,16 +170,16 @@ fn read_rounds(
                 count: sofar,
             });
         };
-        let Reached {
-            place: next,
-            count: more,
-        } = read_stretch(
+        let got = read_stretch(
             strict, table, l, node, from, width, rest, at, room, store, ready,
-        )?;
-        let used = next - at;
+        );
+        let Ok(read) = got else {
+            return got;
+        };
+        let used = read.place - at;
         rest = &rest[used..];
-        at = next;
-        sofar = more;
+        at = read.place;
+        sofar = read.count;
         left = left - 1;
     }
     Ok(Reached {
@@ -215,14 +215,14 @@ fn read_stretch(
     let mut left = width;
     while 0 < left {
         let c = table::u16_at(table, child);
-        let Reached {
-            place: next,
-            count: more,
-        } = read_item(strict, table, l, c, rest, at, room, store, sofar)?;
-        let used = next - at;
+        let got = read_item(strict, table, l, c, rest, at, room, store, sofar);
+        let Ok(read) = got else {
+            return got;
+        };
+        let used = read.place - at;
         rest = &rest[used..];
-        at = next;
-        sofar = more;
+        at = read.place;
+        sofar = read.count;
         child = child + 2;
         left = left - 1;
     }

@@ -57,7 +57,10 @@ fn char_of(part: &[u8], count: Own) -> Result<Own, Refusal>
 pub fn take_char(part: &[u8]) -> Result<Own, Refusal>
     ensures { result ≡ read_plain char part.now }
 {
-    let count = varint::take::<varint::U64>(part)?;
+    let got = varint::take::<varint::U64>(part);
+    let Ok(count) = got else {
+        return got;
+    };
     char_of(&part[count.used..], count)
 }
 
@@ -92,6 +95,9 @@ fn content_of(part: &[u8], count: Own, text: bool) -> Result<Own, Refusal>
 pub fn take_content(part: &[u8], text: bool) -> Result<Own, Refusal>
     ensures { result ≡ head (pooled (content_if text)) 0 0 part.now }
 {
-    let count = varint::take::<varint::U64>(part)?;
+    let got = varint::take::<varint::U64>(part);
+    let Ok(count) = got else {
+        return got;
+    };
     content_of(&part[count.used..], count, text)
 }

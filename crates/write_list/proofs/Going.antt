@@ -101,10 +101,6 @@ pub going_end : {w : Wrote} {ws : List ℕ} {u : ℕ} {before : List ℕ} {n : �
 unfolding write_nothing
 going_end {w} {ws} {u} {before} {n} {out} g e = record { holds = record { bytes = g.bytes; is = g.is ∙ ap (wrote_after g.bytes) e; puts = g.puts } }
 
--- the same answer by another name
-pub gives_as : {w : Wrote} {ws : List ℕ} {u : ℕ} {before : List ℕ} {a b : Put} {out : List ℕ} → a ≡ b → Gives w ws u before a out → Gives w ws u before b out
-gives_as e g = rw e at g
-
 pub gives-misfit : {w : Wrote} {ws : List ℕ} {u : ℕ} {before : List ℕ} {i : ℕ} {out : List ℕ} → w ≡ misfit i → Gives w ws u before (Misfit i) out
 gives-misfit e = record { holds = e }
 

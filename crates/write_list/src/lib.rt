@@ -255,14 +255,14 @@ fn put_rounds(
         let Some(start) = begin(headed, words, i) else {
             return Err(Misfit { at: i });
         };
-        let Done {
-            at: next,
-            used: more,
-        } = put_stretch(
+        let got = put_stretch(
             table, l, node, from, width, words, start, pool, out, n, judged,
-        )?;
-        i = next;
-        n = more;
+        );
+        let Ok(done) = got else {
+            return got;
+        };
+        i = done.at;
+        n = done.used;
         left = left - 1;
     }
     Ok(Done { at: i, used: n })
@@ -294,12 +294,12 @@ fn put_stretch(
     let mut left = width;
     while 0 < left {
         let c = table::u16_at(table, child);
-        let Done {
-            at: next,
-            used: more,
-        } = put_item(table, l, c, words, i, pool, out, n, judged)?;
-        i = next;
-        n = more;
+        let got = put_item(table, l, c, words, i, pool, out, n, judged);
+        let Ok(done) = got else {
+            return got;
+        };
+        i = done.at;
+        n = done.used;
         child = child + 2;
         left = left - 1;
     }

@@ -12,7 +12,6 @@ use Rattle.read_item.proofs.Entering.{item-full}
 use Rattle.read_item.proofs.Heads.{int-taken, int-ends}
 use Rattle.reader.proofs.Laying.{gives-refused, gives_as}
 use Rattle.reader.proofs.Rounds.{begun-full, begun-at}
-use Rattle.laws.proofs.Answers.{handed-up}
 use Rattle.reader.proofs.Turns.{Went, turn-refused, turned, row_done, row-turn, rounds-done, rounds-turn, node-steady, row-steady, entered-refused, entered_on, leaf-gives, goes-done, goes_on, leaf-own, int-gives}
 use Rattle.reader.proofs.+read_inner_read_item_read_rounds_read_stretch.Goals as goal
 
@@ -79,68 +78,68 @@ read_item-returns t c = let outer = not-inner _ (sym c.is_inner.ensures ∙ c.if
 pub read_rounds-returns-in_default : goal.read_rounds-returns-in_default
 read_rounds-returns-in_default t c = begun-full (head-by-sound _) _ _ _ _ _ _ _ c.begin.ensures (rounds-turn _ _ _ _ _ _ _ _ _ _ _ _ _ c.loop-left.invariant.0 c.loop-left-test.true) c.in_default.is
 
-pub read_rounds-read_stretch-requires : goal.read_rounds-read_stretch-requires
-read_rounds-read_stretch-requires t c = (omega arith, (c.requires.good_table, (c.requires.node_le_nodes, (c.requires.falls, omega arith))))
+pub read_rounds-read_stretch-got-requires : goal.read_rounds-read_stretch-got-requires
+read_rounds-read_stretch-got-requires t c = (omega arith, (c.requires.good_table, (c.requires.node_le_nodes, (c.requires.falls, omega arith))))
 
-pub read_rounds-returns-in_err-next : goal.read_rounds-returns-in_err-next
-read_rounds-returns-in_err-next t c = gives_as (c.in_err-next.was ∙ sym (handed-up c.from_residual.ensures)) (turn-refused _ _ _ (row-steady (head-by-sound _) _ _ _ _) _ _ _ _ _
+pub read_rounds-returns-in_default-got : goal.read_rounds-returns-in_default-got
+read_rounds-returns-in_default-got t c = turn-refused _ _ _ (row-steady (head-by-sound _) _ _ _ _) _ _ _ _ _
     (begun-at (head-by-sound _) _ _ _ _ _ _ _ c.begin.ensures (rounds-turn _ _ _ _ _ _ _ _ _ _ _ _ _ c.loop-left.invariant.0 c.loop-left-test.true) c.in-Some.is)
-    _ _ c.read_stretch.ensures c.in_err-next.was)
+    _ _ c.read_stretch-got.ensures c.in_default-got.is
 
 pub read_rounds-overflow_sub-used : goal.read_rounds-overflow_sub-used
-read_rounds-overflow_sub-used t c = let went : Went c.loop-left.rest.now c.loop-left.at c.in_ok-next.field-0.place = (turned _ _ _ (row-steady (head-by-sound _) _ _ _ _) _ _ _ _ _
+read_rounds-overflow_sub-used t c = let went : Went c.loop-left.rest.now c.loop-left.at c.in-Ok.read.place = (turned _ _ _ (row-steady (head-by-sound _) _ _ _ _) _ _ _ _ _
     (begun-at (head-by-sound _) _ _ _ _ _ _ _ c.begin.ensures (rounds-turn _ _ _ _ _ _ _ _ _ _ _ _ _ c.loop-left.invariant.0 c.loop-left-test.true) c.in-Some.is)
-    _ _ c.read_stretch.ensures c.in_ok-next.was).0 in went.up
+    _ _ c.read_stretch-got.ensures c.in-Ok.is).0 in went.up
 
 pub read_rounds-slice_bounds-rest-count : goal.read_rounds-slice_bounds-rest-count
-read_rounds-slice_bounds-rest-count t c = let went : Went c.loop-left.rest.now c.loop-left.at c.in_ok-next.field-0.place = (turned _ _ _ (row-steady (head-by-sound _) _ _ _ _) _ _ _ _ _
+read_rounds-slice_bounds-rest-count t c = let went : Went c.loop-left.rest.now c.loop-left.at c.in-Ok.read.place = (turned _ _ _ (row-steady (head-by-sound _) _ _ _ _) _ _ _ _ _
     (begun-at (head-by-sound _) _ _ _ _ _ _ _ c.begin.ensures (rounds-turn _ _ _ _ _ _ _ _ _ _ _ _ _ c.loop-left.invariant.0 c.loop-left-test.true) c.in-Some.is)
-    _ _ c.read_stretch.ensures c.in_ok-next.was).0 in went.inside
+    _ _ c.read_stretch-got.ensures c.in-Ok.is).0 in went.inside
 
 pub read_rounds-slice_bounds-rest-start : goal.read_rounds-slice_bounds-rest-start
-read_rounds-slice_bounds-rest-start t c = let went : Went c.loop-left.rest.now c.loop-left.at c.in_ok-next.field-0.place = (turned _ _ _ (row-steady (head-by-sound _) _ _ _ _) _ _ _ _ _
+read_rounds-slice_bounds-rest-start t c = let went : Went c.loop-left.rest.now c.loop-left.at c.in-Ok.read.place = (turned _ _ _ (row-steady (head-by-sound _) _ _ _ _) _ _ _ _ _
     (begun-at (head-by-sound _) _ _ _ _ _ _ _ c.begin.ensures (rounds-turn _ _ _ _ _ _ _ _ _ _ _ _ _ c.loop-left.invariant.0 c.loop-left-test.true) c.in-Some.is)
-    _ _ c.read_stretch.ensures c.in_ok-next.was).0 in went.inside
+    _ _ c.read_stretch-got.ensures c.in-Ok.is).0 in went.inside
 
 pub read_rounds-loop-left-preserved : goal.read_rounds-loop-left-preserved
 read_rounds-loop-left-preserved t c = (
   (turned _ _ _ (row-steady (head-by-sound _) _ _ _ _) _ _ _ _ _
       (begun-at (head-by-sound _) _ _ _ _ _ _ _ c.begin.ensures (rounds-turn _ _ _ _ _ _ _ _ _ _ _ _ _ c.loop-left.invariant.0 c.loop-left-test.true) c.in-Some.is)
-      _ _ c.read_stretch.ensures c.in_ok-next.was).1,
+      _ _ c.read_stretch-got.ensures c.in-Ok.is).1,
   omega (
     arith,
-    (let went : Went c.loop-left.rest.now c.loop-left.at c.in_ok-next.field-0.place = (turned _ _ _ (row-steady (head-by-sound _) _ _ _ _) _ _ _ _ _
+    (let went : Went c.loop-left.rest.now c.loop-left.at c.in-Ok.read.place = (turned _ _ _ (row-steady (head-by-sound _) _ _ _ _) _ _ _ _ _
         (begun-at (head-by-sound _) _ _ _ _ _ _ _ c.begin.ensures (rounds-turn _ _ _ _ _ _ _ _ _ _ _ _ _ c.loop-left.invariant.0 c.loop-left-test.true) c.in-Some.is)
-        _ _ c.read_stretch.ensures c.in_ok-next.was).0 in went).kept,
+        _ _ c.read_stretch-got.ensures c.in-Ok.is).0 in went).kept,
   ),
-  c.read_stretch.auto.store ∙ c.begin.auto.store ∙ c.loop-left.invariant.2,
+  c.read_stretch-got.auto.store ∙ c.begin.auto.store ∙ c.loop-left.invariant.2,
 )
 
 pub read_rounds-returns : goal.read_rounds-returns
 read_rounds-returns t c = rounds-done _ _ _ _ _ _ _ _ _ _ _ _ _ c.loop-left.invariant.0 c.loop-left-test.false
 
-pub read_stretch-read_item-requires : goal.read_stretch-read_item-requires
-read_stretch-read_item-requires t c = let f = falls-first c.loop-left.invariant.1 c.loop-left-test.true in
+pub read_stretch-read_item-got-requires : goal.read_stretch-read_item-got-requires
+read_stretch-read_item-got-requires t c = let f = falls-first c.loop-left.invariant.1 c.loop-left-test.true in
     (omega arith, (c.requires.good_table, (omega arith, omega arith)))
 
-pub read_stretch-returns-in_err-next : goal.read_stretch-returns-in_err-next
-read_stretch-returns-in_err-next t c = gives_as (c.in_err-next.was ∙ sym (handed-up c.from_residual.ensures)) (turn-refused _ _ _ (node-steady (head-by-sound _) _ _ _) _ _ _ _ _ (row-turn _ _ _ _ _ _ _ _ _ _ _ c.loop-left.invariant.0 c.loop-left-test.true _ c.u16_at-c.ensures.0) _ _ c.read_item.ensures c.in_err-next.was)
+pub read_stretch-returns-in_default : goal.read_stretch-returns-in_default
+read_stretch-returns-in_default t c = turn-refused _ _ _ (node-steady (head-by-sound _) _ _ _) _ _ _ _ _ (row-turn _ _ _ _ _ _ _ _ _ _ _ c.loop-left.invariant.0 c.loop-left-test.true _ c.u16_at-c.ensures.0) _ _ c.read_item-got.ensures c.in_default.is
 
 pub read_stretch-overflow_sub-used : goal.read_stretch-overflow_sub-used
-read_stretch-overflow_sub-used t c = let went : Went c.loop-left.rest.now c.loop-left.at c.in_ok-next.field-0.place = (turned _ _ _ (node-steady (head-by-sound _) _ _ _) _ _ _ _ _ (row-turn _ _ _ _ _ _ _ _ _ _ _ c.loop-left.invariant.0 c.loop-left-test.true _ c.u16_at-c.ensures.0) _ _ c.read_item.ensures c.in_ok-next.was).0 in went.up
+read_stretch-overflow_sub-used t c = let went : Went c.loop-left.rest.now c.loop-left.at c.in-Ok.read.place = (turned _ _ _ (node-steady (head-by-sound _) _ _ _) _ _ _ _ _ (row-turn _ _ _ _ _ _ _ _ _ _ _ c.loop-left.invariant.0 c.loop-left-test.true _ c.u16_at-c.ensures.0) _ _ c.read_item-got.ensures c.in-Ok.is).0 in went.up
 
 pub read_stretch-slice_bounds-rest-count : goal.read_stretch-slice_bounds-rest-count
-read_stretch-slice_bounds-rest-count t c = let went : Went c.loop-left.rest.now c.loop-left.at c.in_ok-next.field-0.place = (turned _ _ _ (node-steady (head-by-sound _) _ _ _) _ _ _ _ _ (row-turn _ _ _ _ _ _ _ _ _ _ _ c.loop-left.invariant.0 c.loop-left-test.true _ c.u16_at-c.ensures.0) _ _ c.read_item.ensures c.in_ok-next.was).0 in went.inside
+read_stretch-slice_bounds-rest-count t c = let went : Went c.loop-left.rest.now c.loop-left.at c.in-Ok.read.place = (turned _ _ _ (node-steady (head-by-sound _) _ _ _) _ _ _ _ _ (row-turn _ _ _ _ _ _ _ _ _ _ _ c.loop-left.invariant.0 c.loop-left-test.true _ c.u16_at-c.ensures.0) _ _ c.read_item-got.ensures c.in-Ok.is).0 in went.inside
 
 pub read_stretch-slice_bounds-rest-start : goal.read_stretch-slice_bounds-rest-start
-read_stretch-slice_bounds-rest-start t c = let went : Went c.loop-left.rest.now c.loop-left.at c.in_ok-next.field-0.place = (turned _ _ _ (node-steady (head-by-sound _) _ _ _) _ _ _ _ _ (row-turn _ _ _ _ _ _ _ _ _ _ _ c.loop-left.invariant.0 c.loop-left-test.true _ c.u16_at-c.ensures.0) _ _ c.read_item.ensures c.in_ok-next.was).0 in went.inside
+read_stretch-slice_bounds-rest-start t c = let went : Went c.loop-left.rest.now c.loop-left.at c.in-Ok.read.place = (turned _ _ _ (node-steady (head-by-sound _) _ _ _) _ _ _ _ _ (row-turn _ _ _ _ _ _ _ _ _ _ _ c.loop-left.invariant.0 c.loop-left-test.true _ c.u16_at-c.ensures.0) _ _ c.read_item-got.ensures c.in-Ok.is).0 in went.inside
 
 pub read_stretch-loop-left-preserved : goal.read_stretch-loop-left-preserved
 read_stretch-loop-left-preserved t c = (
-  (turned _ _ _ (node-steady (head-by-sound _) _ _ _) _ _ _ _ _ (row-turn _ _ _ _ _ _ _ _ _ _ _ c.loop-left.invariant.0 c.loop-left-test.true _ c.u16_at-c.ensures.0) _ _ c.read_item.ensures c.in_ok-next.was).1,
+  (turned _ _ _ (node-steady (head-by-sound _) _ _ _) _ _ _ _ _ (row-turn _ _ _ _ _ _ _ _ _ _ _ c.loop-left.invariant.0 c.loop-left-test.true _ c.u16_at-c.ensures.0) _ _ c.read_item-got.ensures c.in-Ok.is).1,
   falls-next c.loop-left.invariant.1 c.loop-left-test.true,
-  omega (arith, (let went : Went c.loop-left.rest.now c.loop-left.at c.in_ok-next.field-0.place = (turned _ _ _ (node-steady (head-by-sound _) _ _ _) _ _ _ _ _ (row-turn _ _ _ _ _ _ _ _ _ _ _ c.loop-left.invariant.0 c.loop-left-test.true _ c.u16_at-c.ensures.0) _ _ c.read_item.ensures c.in_ok-next.was).0 in went).kept),
-  c.read_item.auto.store ∙ c.loop-left.invariant.3,
+  omega (arith, (let went : Went c.loop-left.rest.now c.loop-left.at c.in-Ok.read.place = (turned _ _ _ (node-steady (head-by-sound _) _ _ _) _ _ _ _ _ (row-turn _ _ _ _ _ _ _ _ _ _ _ c.loop-left.invariant.0 c.loop-left-test.true _ c.u16_at-c.ensures.0) _ _ c.read_item-got.ensures c.in-Ok.is).0 in went).kept),
+  c.read_item-got.auto.store ∙ c.loop-left.invariant.3,
 )
 
 pub read_stretch-returns : goal.read_stretch-returns

@@ -28,9 +28,9 @@ pub lay-requires : goal.lay-requires
 unfolding judged
 lay-requires c = record { ends = leaf-ends _ _ _ false _ (omega (arith, c.well_formed.1.0)) c.take-item.ensures; made_bound = omega arith }
 
-pub returns-then-room-gt0 : goal.returns-then-room-gt0
+pub returns-then-not-is_inner : goal.returns-then-not-is_inner
 unfolding room_of reads
-returns-then-room-gt0 c = let good = sym c.check-checked.ensures ∙ c.in-Ok.is in
+returns-then-not-is_inner c = let good = sym c.check-checked.ensures ∙ c.in-Ok.is in
     let outer = not-inner _ (sym c.is_inner.ensures ∙ c.if-not-is_inner.true) in
     reads_whole _ _ _ _
     (rw c.room-room.ensures

@@ -9,8 +9,7 @@ use Rattle.wire.specs.Answers.{room_of}
 use Rattle.table.proofs.Stretches.{falls-first, falls-next, row-end, rounds-end}
 use Rattle.laws.specs.KindRanges.{IsLeaf}
 use Rattle.laws.proofs.KindRanges.{is-inner, not-inner}
-use Rattle.laws.proofs.Answers.{handed-up}
-use Rattle.write_list.proofs.Going.{few_bytes, going-begin, no-going-on, gives_whole, sure-rest, sure-first, first-misfit, gives_as, first_done, going_end, gives-misfit}
+use Rattle.write_list.proofs.Going.{few_bytes, going-begin, no-going-on, gives_whole, sure-rest, sure-first, first-misfit, first_done, going_end, gives-misfit}
 use Rattle.write_list.proofs.Nodes.{node_end, node-number, node-leaf, entered_on, entered-misfit}
 use Rattle.write_list.proofs.Rounds.{flattens, flattened-falls, stretch-first, round-first, round-misfit, flat-sure, flat-gives}
 use Rattle.write_list.proofs.Fronts.{ready-gives}
@@ -89,34 +88,34 @@ inner_item-returns t c = gives_whole (few_bytes _ c.well_formed.1.1.1.1.1.1.1.0.
 pub put_rounds-returns-in_default : goal.put_rounds-returns-in_default
 put_rounds-returns-in_default t c = gives-misfit (no-going-on (few_bytes _ c.well_formed.1.1.1.1.1.1.1.1.1.1.0.1) c.loop-left.invariant.0 (round-misfit _ _ _ _ _ _ _ c.begin.ensures c.loop-left-test.true c.in_default.is))
 
-pub put_rounds-put_stretch-requires : goal.put_rounds-put_stretch-requires
-put_rounds-put_stretch-requires t c = (rounds-stretch _ c.decreases, (c.requires.good_table, (c.requires.node_le_nodes, (c.requires.falls, sure-first (few_bytes _ c.well_formed.1.1.1.1.1.1.1.1.1.1.0.1) c.loop-left.invariant.0 (round-first _ _ _ _ _ _ _ c.begin.ensures c.loop-left-test.true c.in-Some.is) c.requires.sure))))
+pub put_rounds-put_stretch-got-requires : goal.put_rounds-put_stretch-got-requires
+put_rounds-put_stretch-got-requires t c = (rounds-stretch _ c.decreases, (c.requires.good_table, (c.requires.node_le_nodes, (c.requires.falls, sure-first (few_bytes _ c.well_formed.1.1.1.1.1.1.1.1.1.1.0.1) c.loop-left.invariant.0 (round-first _ _ _ _ _ _ _ c.begin.ensures c.loop-left-test.true c.in-Some.is) c.requires.sure))))
 
-pub put_rounds-returns-in_err-next : goal.put_rounds-returns-in_err-next
-put_rounds-returns-in_err-next t c = gives_as (c.in_err-next.was ∙ sym (handed-up c.from_residual.ensures)) (first-misfit (few_bytes _ c.well_formed.1.1.1.1.1.1.1.1.1.1.0.1) c.loop-left.invariant.0 (round-first _ _ _ _ _ _ _ c.begin.ensures c.loop-left-test.true c.in-Some.is) c.put_stretch.ensures c.in_err-next.was)
+pub put_rounds-returns-in_default-got : goal.put_rounds-returns-in_default-got
+put_rounds-returns-in_default-got t c = first-misfit (few_bytes _ c.well_formed.1.1.1.1.1.1.1.1.1.1.0.1) c.loop-left.invariant.0 (round-first _ _ _ _ _ _ _ c.begin.ensures c.loop-left-test.true c.in-Some.is) c.put_stretch-got.ensures c.in_default-got.is
 
 pub put_rounds-loop-left-init : goal.put_rounds-loop-left-init
 put_rounds-loop-left-init t c = (going-begin _ _ _ (omega arith), refl)
 
 pub put_rounds-loop-left-preserved : goal.put_rounds-loop-left-preserved
-put_rounds-loop-left-preserved t c = (first_done (few_bytes _ c.well_formed.1.1.1.1.1.1.1.1.1.1.0.1) c.loop-left.invariant.0 (round-first _ _ _ _ _ _ _ c.begin.ensures c.loop-left-test.true c.in-Some.is) c.put_stretch.ensures c.in_ok-next.was, search rules)
+put_rounds-loop-left-preserved t c = (first_done (few_bytes _ c.well_formed.1.1.1.1.1.1.1.1.1.1.0.1) c.loop-left.invariant.0 (round-first _ _ _ _ _ _ _ c.begin.ensures c.loop-left-test.true c.in-Some.is) c.put_stretch-got.ensures c.in-Ok.is, search rules)
 
 pub put_rounds-returns : goal.put_rounds-returns
 put_rounds-returns t c = going_end c.loop-left.invariant.0 (rounds-end _ _ _ _ _ _ _ _ c.loop-left-test.false)
 
-pub put_stretch-put_item-requires : goal.put_stretch-put_item-requires
-put_stretch-put_item-requires t c = let child = falls-first c.loop-left.invariant.1 c.loop-left-test.true in
+pub put_stretch-put_item-got-requires : goal.put_stretch-put_item-got-requires
+put_stretch-put_item-got-requires t c = let child = falls-first c.loop-left.invariant.1 c.loop-left-test.true in
     (stretch-item _ c.u16_at-c.ensures.0 child c.decreases, (c.requires.good_table, (omega arith, sure-first (few_bytes _ c.well_formed.1.1.1.1.1.1.1.1.0.1) c.loop-left.invariant.0 (stretch-first _ _ _ _ _ _ c.u16_at-c.ensures.0 c.loop-left-test.true) c.requires.sure)))
 
-pub put_stretch-returns-in_err-next : goal.put_stretch-returns-in_err-next
-put_stretch-returns-in_err-next t c = gives_as (c.in_err-next.was ∙ sym (handed-up c.from_residual.ensures)) (first-misfit (few_bytes _ c.well_formed.1.1.1.1.1.1.1.1.0.1) c.loop-left.invariant.0 (stretch-first _ _ _ _ _ _ c.u16_at-c.ensures.0 c.loop-left-test.true) c.put_item.ensures c.in_err-next.was)
+pub put_stretch-returns-in_default : goal.put_stretch-returns-in_default
+put_stretch-returns-in_default t c = first-misfit (few_bytes _ c.well_formed.1.1.1.1.1.1.1.1.0.1) c.loop-left.invariant.0 (stretch-first _ _ _ _ _ _ c.u16_at-c.ensures.0 c.loop-left-test.true) c.put_item-got.ensures c.in_default.is
 
 pub put_stretch-loop-left-init : goal.put_stretch-loop-left-init
 put_stretch-loop-left-init t c = (going-begin _ _ _ (omega arith), c.requires.falls, refl)
 
 pub put_stretch-loop-left-preserved : goal.put_stretch-loop-left-preserved
 put_stretch-loop-left-preserved t c = (
-  first_done (few_bytes _ c.well_formed.1.1.1.1.1.1.1.1.0.1) c.loop-left.invariant.0 (stretch-first _ _ _ _ _ _ c.u16_at-c.ensures.0 c.loop-left-test.true) c.put_item.ensures c.in_ok-next.was,
+  first_done (few_bytes _ c.well_formed.1.1.1.1.1.1.1.1.0.1) c.loop-left.invariant.0 (stretch-first _ _ _ _ _ _ c.u16_at-c.ensures.0 c.loop-left-test.true) c.put_item-got.ensures c.in-Ok.is,
   falls-next c.loop-left.invariant.1 c.loop-left-test.true,
   search rules,
 )

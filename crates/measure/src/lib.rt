@@ -1,11 +1,8 @@
 // Loops over the leaves, so that a driver can time them without a call for each item. No part of the library.
 #![tactic(auto)]
 
-<<<<<<< HEAD
-=======
 use varint::{U16, U32, U64, Width};
 
->>>>>>> low
 // The sum of a message's varints, one after the other, up to the first that is refused.
 fn sum<W: Width>(message: &[u8]) -> u64 {
     let mut sum: u64 = 0;

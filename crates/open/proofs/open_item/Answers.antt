@@ -15,7 +15,7 @@ overflow_add-after c = let p = c.requires in omega (arith, p.part_bound, (taken 
 
 pub returns-then-to-eq0 : goal.returns-then-to-eq0
 returns-then-to-eq0 c = let p = c.requires in elim c.then-to-eq0.branch [
-  then-to-eq0-via-then-to-eq0 w ↦ opens-none (head-by-sound _) _ p.good_table p.node_lt_nodes _ _ _ _ p.made_lt_room c.enter.ensures c.in-Ok.is _ _ p.chain w.if-to-eq0.true
+  | then-to-eq0-via-then-to-eq0 w ↦ opens-none (head-by-sound _) _ p.good_table p.node_lt_nodes _ _ _ _ p.made_lt_room c.enter.ensures c.in-Ok.is _ _ p.chain w.if-to-eq0.true
   | then-to-eq0-via-else-to-eq0+then-to-eq0-2 w ↦ opens-empty (head-by-sound _) _ p.good_table p.node_lt_nodes _ _ _ _ p.made_lt_room c.enter.ensures c.in-Ok.is _ _ p.chain w.if-to-eq0-2.true
 ]
 

@@ -10,9 +10,6 @@ ghost use Rattle.csv_rows.specs.Promise.{GivesImport};
 use columns::Columns;
 use desk::NotRows;
 use wire::RefusedAt;
-use Found;
-use CsvAnswer;
-use Checked;
 
 // Writes the row of a message by a table: how many bytes, which stand in front in the output, or why not.
 pub fn export(table: &[u8], message: &[u8], out: &mut [u8]) -> Result<usize, NotRows>

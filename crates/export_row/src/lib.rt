@@ -7,11 +7,8 @@ ghost use Rattle.columns.specs.Columns.{field_shapes, Rowed};
 ghost use Rattle.put_row.specs.Rows.{fields_from};
 ghost use Rattle.export_row.specs.Outputs.{Gives, told_output};
 
-use CsvAnswer;
-use Row;
 use desk::NotRows;
-use put_row::Laid;
-use wire::{Layout, Refusal, RefusedAt};
+use wire::{Layout, Refusal};
 
 // The room for the row of few fields that are short, which is soon cleared, and of others.
 const SHORT: usize = 256;
@@ -33,24 +30,19 @@ fn export_kept(
     requires { Rowed table.now l from width }
     ensures { Gives (told_output (length out.old) (fields_from message.now true (field_shapes table.now l from width) 0)) out.old result out.new }
 {
-    let got = put_row::put_row(table, l, from, width, message, kept);
-    match got {
-        Err(RefusedAt { why, place }) => Err(NotRows::Refused { why, place }),
-        Ok(Laid { place: _, len }) => {
-            if out.len() < len {
-                return Err(NotRows::Refused {
-                    why: Refusal::Full,
-                    place: 0,
-                });
-            }
-            if len <= kept.len() {
-                output::put_bytes(&kept[..len], out, 0);
-                return Ok(len);
-            }
-            put_row::put_row(table, l, from, width, message, out);
-            Ok(len)
-        }
+    let laid = put_row::put_row(table, l, from, width, message, kept)?;
+    if out.len() < laid.len {
+        return Err(NotRows::Refused {
+            why: Refusal::Full,
+            place: 0,
+        });
     }
+    if laid.len <= kept.len() {
+        output::put_bytes(&kept[..laid.len], out, 0);
+        return Ok(laid.len);
+    }
+    put_row::put_row(table, l, from, width, message, out)?;
+    Ok(laid.len)
 }
 
 fn export_few(

@@ -13,7 +13,7 @@ use Rattle.put_number.specs.Lays.{Lays}
 use Rattle.export_row.specs.Outputs.{Gives}
 use Rattle.export_row.proofs.Once.{gives-no, laid-full, laid-short, laid-long}
 use Rattle.take_row.specs.Message.{Message}
-use Rattle.take_row.specs.declared.Message.TheVariants as message
+use Rattle.take_row.specs.Message as message
 use Rattle.take_row.specs.Messages.{Taken, gives, stops_at, LaysMessage, laid, refused}
 use Rattle.import_row.specs.Outputs.{taken_output}
 

@@ -9,10 +9,8 @@ ghost use Rattle.export_row.specs.Outputs.{Gives};
 ghost use Rattle.take_row.specs.Messages.{taken_by};
 ghost use Rattle.import_row.specs.Outputs.{taken_output};
 
-use take_row::{Laid, NoRow};
 use desk::NotRows;
-use CsvAnswer;
-use Message;
+use take_row::{Laid, NoRow};
 use wire::{Layout, Refusal};
 
 // The room for the message of few fields that are short, which is soon cleared, and of others.
@@ -49,7 +47,7 @@ fn import_kept(
                 output::put_bytes(&kept[..len], out, 0);
                 return Ok(len);
             }
-            take_row::take_row(table, l, from, width, row, out);
+            let _ = take_row::take_row(table, l, from, width, row, out);
             Ok(len)
         }
     }

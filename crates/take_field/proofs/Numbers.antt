@@ -28,7 +28,7 @@ use Rattle.write_item.specs.Own.{Fits, SpellsEntry}
 use Rattle.put_number.proofs.Laying.{lays-puts}
 use Rattle.put_field.specs.Fields.{Largest, IsNumber, low, high}
 use Rattle.take_number.specs.Number.{Number}
-use Rattle.take_number.specs.declared.Number.TheVariants as number
+use Rattle.take_number.specs.Number as number
 use Rattle.take_number.specs.Scans.{Ends, TakesNumber}
 use Rattle.take_number.specs.Scans as scans
 use Rattle.take_field.specs.Field.{Took, Stops}

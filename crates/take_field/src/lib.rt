@@ -11,7 +11,6 @@ ghost use Rattle.columns.specs.Columns.{is_some};
 ghost use Rattle.take_field.specs.Taking.{TakesKind, quoted_kind};
 
 use take_number::{NoNumber, Numeral};
-use Number;
 
 // A field that was taken: the place behind it, and the length of its form.
 #[derive(Clone, Copy)]
@@ -41,7 +40,13 @@ fn smallest(number: u8, above: u64) -> u64
 }
 
 // A number.
-fn take_plain(number: u8, row: &[u8], at: usize, out: &mut [u8], used: usize) -> Result<Took, NoField>
+fn take_plain(
+    number: u8,
+    row: &[u8],
+    at: usize,
+    out: &mut [u8],
+    used: usize,
+) -> Result<Took, NoField>
     requires number { IsNumber number }
     requires at_in_bounds { at ≤ length row.now }
     ensures { TakesKind (kind_of number) row.now at used out.old result out.new }
@@ -59,7 +64,13 @@ fn take_plain(number: u8, row: &[u8], at: usize, out: &mut [u8], used: usize) ->
 }
 
 // A text, or one char.
-fn take_quoted(one: bool, row: &[u8], at: usize, out: &mut [u8], used: usize) -> Result<Took, NoField>
+fn take_quoted(
+    one: bool,
+    row: &[u8],
+    at: usize,
+    out: &mut [u8],
+    used: usize,
+) -> Result<Took, NoField>
     requires { at ≤ length row.now }
     ensures { TakesKind (quoted_kind one) row.now at used out.old result out.new }
 {
@@ -91,7 +102,13 @@ fn take_bytes(row: &[u8], at: usize, out: &mut [u8], used: usize) -> Result<Took
 }
 
 // The field of a kind.
-pub fn take_field(number: u8, row: &[u8], at: usize, out: &mut [u8], used: usize) -> Result<Took, NoField>
+pub fn take_field(
+    number: u8,
+    row: &[u8],
+    at: usize,
+    out: &mut [u8],
+    used: usize,
+) -> Result<Took, NoField>
     requires number_value { is_some (style_of (kind_of number)) ≡ true }
     requires at_in_bounds { at ≤ length row.now }
     ensures { TakesKind (kind_of number) row.now at used out.old result out.new }

@@ -28,8 +28,10 @@ use Rattle.put_number.proofs.Laying.{lays-puts, lays-both}
 use Rattle.output.specs.Bytes.{cap}
 use Rattle.output.proofs.Counting.{cap-small, cap-large, puts_none}
 use Rattle.take_number.specs.Scans.{Ends}
+use Rattle.take_field.specs.declared.Took.{Took}
+use Rattle.take_field.specs.declared.NoField.{NoField}
 use Rattle.take_field.specs.Field.{Field}
-use Rattle.take_field.specs.declared.Field.TheVariants as field
+use Rattle.take_field.specs.Field as field
 use Rattle.take_field.specs.Taking.{Takes, TakesKind}
 use Rattle.take_field.specs.Taking as taking
 use Rattle.take_row.specs.Message.{Message}
@@ -187,12 +189,18 @@ going-begin {s} input {l} {from} {width} out small r =
 no-comma : {first : Bool} {s : List ℕ} {i p : ℕ} {r : Field} → Separated first s i r → r ≡ field.Stops p → (first ≡ false) × (is_at s i comma ≡ false) × (p ≡ i)
 no-comma (begins w) q = let z : ◌≡◌ {A = ℕ} 0 1 = cc in absurd (omega arith)
 no-comma (behind_comma w h) q = let z : ◌≡◌ {A = ℕ} 0 1 = cc in absurd (omega arith)
-no-comma {i = i} {p = p} (no_comma w h) q = let e : i ≡ p = cc in (w, h, sym e)
+no-comma {i = i} {p = p} (no_comma w h) q =
+    let e : ◌≡◌ {A = NoField} (record { at = i }) (record { at = p }) = cc in
+    (w, h, sym (ap (λ x. x.at) e))
 
 by-start : {first : Bool} {s : List ℕ} {i start z : ℕ} {r : Field} {X : Type 0} → Separated first s i r → r ≡ field.Took start z
     → (first ≡ true → start ≡ i → X) → (first ≡ false → is_at s i comma ≡ true → start ≡ i + 1 → X) → X
-by-start {i = i} {start = start} (begins w) q f g = let e : i ≡ start = cc in f w (sym e)
-by-start {i = i} {start = start} (behind_comma w h) q f g = let e : i + 1 ≡ start = cc in g w h (sym e)
+by-start {i = i} {start = start} {z = z} (begins w) q f g =
+    let e : ◌≡◌ {A = Took} (record { at = i; len = 0 }) (record { at = start; len = z }) = cc in
+    f w (sym (ap (λ x. x.at) e))
+by-start {i = i} {start = start} {z = z} (behind_comma w h) q f g =
+    let e : ◌≡◌ {A = Took} (record { at = i + 1; len = 0 }) (record { at = start; len = z }) = cc in
+    g w h (sym (ap (λ x. x.at) e))
 by-start (no_comma w h) q f g = let z : ◌≡◌ {A = ℕ} 0 1 = cc in absurd (omega arith)
 
 -- the first column and the others

@@ -8,7 +8,7 @@ use Rattle.spellings.specs.Accept.{Parsed, took, stopped, parse}
 use Rattle.put_number.specs.Lays.{Lays}
 use Rattle.take_field.specs.Field.{Field}
 use Rattle.take_field.specs.Field.{Took}
-use Rattle.take_field.specs.declared.Field.TheVariants as field
+use Rattle.take_field.specs.Field as field
 use Rattle.take_row.specs.Message.{Message}
 use Rattle.take_row.specs.Message.{Laid, Stops}
 

@@ -8,7 +8,6 @@ ghost use Rattle.columns.specs.Columns.{field_shapes, Rowed};
 ghost use Rattle.take_row.specs.Messages.{taken_by, is_at, LaysMessage, Separated, Ended};
 
 use take_field::{NoField, Took};
-use Field;
 use wire::Layout;
 
 // The length of a row's message.

@@ -24,10 +24,10 @@ pub overflow_add-len : goal.overflow_add-len
 overflow_add-len c = let g = going-run c.loop-at.invariant c.after_plain-far.ensures c.behind_run-lo.ensures c.behind_run-hi.ensures in omega (arith, g.few, g.inside)
 
 pub loop-at-smaller : goal.loop-at-smaller
-loop-at-smaller c = let g = going-run c.loop-at.invariant c.after_plain-far.ensures c.behind_run-lo.ensures c.behind_run-hi.ensures in let r = going_on g c.next_byte-got.ensures c.in-Some.is in omega (arith, r.1, r.0.inside, c.after_plain-far.ensures.forth)
+loop-at-smaller c = let g = going-run c.loop-at.invariant c.after_plain-far.ensures c.behind_run-lo.ensures c.behind_run-hi.ensures in let r = going_on g c.next_byte-got.ensures c.in-On.is in omega (arith, r.1, r.0.inside, c.after_plain-far.ensures.forth)
 
 pub loop-at-preserved : goal.loop-at-preserved
-loop-at-preserved c = let g = going-run c.loop-at.invariant c.after_plain-far.ensures c.behind_run-lo.ensures c.behind_run-hi.ensures in (going_on g c.next_byte-got.ensures c.in-Some.is).0
+loop-at-preserved c = let g = going-run c.loop-at.invariant c.after_plain-far.ensures c.behind_run-lo.ensures c.behind_run-hi.ensures in (going_on g c.next_byte-got.ensures c.in-On.is).0
 
 pub returns : goal.returns
 returns c = rw c.cut-2.ensures (going_end c.loop-at.invariant (omega arith))

@@ -7,26 +7,16 @@ ghost use Rattle.desk.specs.Csv.{csv_export};
 ghost use Rattle.export_row.specs.Outputs.{Gives};
 ghost use Rattle.csv_rows.specs.Promise.{GivesImport};
 
-use columns::Columns;
 use desk::NotRows;
-use wire::RefusedAt;
 
 // Writes the row of a message by a table: how many bytes, which stand in front in the output, or why not.
 pub fn export(table: &[u8], message: &[u8], out: &mut [u8]) -> Result<usize, NotRows>
     ensures { Gives (csv_export table.now message.now (length out.old)) out.old result out.new }
 {
-    let checked = table::check(table);
-    match checked {
-        Err(RefusedAt { why, place }) => Err(NotRows::Refused { why, place }),
-        Ok(layout) => {
-            let found = columns::find(table, layout);
-            match found {
-                None => Err(NotRows::Unfit),
-                Some(Columns { from, width }) => {
-                    export_row::export_row(table, layout, from, width, message, out)
-                }
-            }
-        }
+    let layout = table::check(table)?;
+    match columns::find(table, layout) {
+        None => Err(NotRows::Unfit),
+        Some(fields) => export_row::export_row(table, layout, fields, message, out),
     }
 }
 
@@ -34,17 +24,9 @@ pub fn export(table: &[u8], message: &[u8], out: &mut [u8]) -> Result<usize, Not
 pub fn import(table: &[u8], row: &[u8], out: &mut [u8]) -> Result<usize, NotRows>
     ensures { GivesImport table.now row.now out.old result out.new }
 {
-    let checked = table::check(table);
-    match checked {
-        Err(RefusedAt { why, place }) => Err(NotRows::Refused { why, place }),
-        Ok(layout) => {
-            let found = columns::find(table, layout);
-            match found {
-                None => Err(NotRows::Unfit),
-                Some(Columns { from, width }) => {
-                    import_row::import_row(table, layout, from, width, row, out)
-                }
-            }
-        }
+    let layout = table::check(table)?;
+    match columns::find(table, layout) {
+        None => Err(NotRows::Unfit),
+        Some(fields) => import_row::import_row(table, layout, fields, row, out),
     }
 }

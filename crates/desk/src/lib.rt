@@ -1,7 +1,10 @@
-// The answers of the questions that document 02 adds. It has no code: what they mean stands in specs/.
+// The answers of the questions that document 02 adds. What they mean stands in specs/.
 #![tactic(auto)]
 
-use wire::Refusal;
+ghost use Rattle.std.specs.Prelude.{◌≡◌};
+ghost use Rattle.desk.specs.declared.NotRows.TheVariants.{Refused};
+
+use wire::{Refusal, RefusedAt};
 
 // An item that was found by its path: its entry's words, and its place.
 #[derive(Clone, Copy)]
@@ -78,4 +81,16 @@ pub enum NotRows {
     Refused { why: Refusal, place: usize },
     Unfit,
     NoRow { place: usize },
+}
+
+// A refusal of the wire is one of an export or an import.
+impl From<RefusedAt> for NotRows {
+    ghost from_gives = { λ r e. e ≡ Refused r.why r.place };
+
+    fn from(r: RefusedAt) -> NotRows {
+        NotRows::Refused {
+            why: r.why,
+            place: r.place,
+        }
+    }
 }

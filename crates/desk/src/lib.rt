@@ -1,7 +1,10 @@
-// The answers of the questions that document 02 adds. It has no code: what they mean stands in specs/.
+// The answers of the questions that document 02 adds. What they mean stands in specs/.
 #![tactic(auto)]
 
-use wire::Refusal;
+ghost use Rattle.std.specs.Prelude.{◌≡◌};
+ghost use Rattle.desk.specs.declared.Fault.TheVariants.{Wire};
+
+use wire::{Refusal, RefusedAt};
 
 // An item that was found by its path: its entry's words, and its place.
 #[derive(Clone, Copy)]
@@ -51,6 +54,17 @@ pub enum Fault {
     Fields,
     Batch,
     Missing,
+}
+
+impl From<RefusedAt> for Fault {
+    ghost from_gives = { λ refused fault. fault ≡ Wire refused.why refused.place };
+
+    fn from(refused: RefusedAt) -> Fault {
+        Fault::Wire {
+            why: refused.why,
+            place: refused.place,
+        }
+    }
 }
 
 // A part of a batch: where it starts, and its length.

@@ -34,6 +34,7 @@ use Rattle.row.proofs.Bytes.{rows_get, length-rows_in}
 use Rattle.messages.specs.declared.Fields.{Fields}
 use Rattle.messages.specs.Found.{Found}
 use Rattle.messages.specs.Found.{At, Unfit}
+use Rattle.messages.specs.declared.Message as message
 use Rattle.messages.specs.NextMessage.{NextMessage}
 use Rattle.messages.specs.NextMessage.{Message, Stops}
 use Rattle.messages.specs.Fields.{keys_of, KeyedBy, Finds as FindsFields, found, unfit}
@@ -41,6 +42,12 @@ use Rattle.messages.specs.Steps.{next_answer}
 use Rattle.batch.specs.Taking.{Opened}
 use Rattle.batch.specs.Taking.{Parts as Apart, Refused}
 use Rattle.batch.specs.Opened.{row_bytes_of, parts_of, Parted, Opens, parts, refuses, Finds}
+
+-- messages that are told alike are as long
+same-length : {key key' : Key} {len len' : ℕ} → Message key len ≡ Message key' len' → len ≡ len'
+same-length {key} {key'} {len} {len'} z =
+    let same : ◌≡◌ {A = message.Message} (record { key = key; len = len }) (record { key = key'; len = len' }) = cc in
+    ap (λ (r : message.Message). r.len) same
 
 -- ---- numbers of the trailer
 
@@ -199,7 +206,7 @@ module _ {table : List ℕ} {lay : Layout} {batch : List ℕ} {f : Fields} {star
         found-message {key} {len} a = by_next (go (next_of (keys_of table lay f) (drop last.offset (take start batch))) (sym a ∙ its-next))
           where
             go : (c : Cut) → Message key len ≡ next_answer c → Part last.offset len ≡ found_answer (part_by last.offset c)
-            go (next m rest) z = unfold next_answer in (unfold part_by found_answer in ap (Part last.offset) (cc))
+            go (next m rest) z = unfold next_answer in (unfold part_by found_answer in ap (Part last.offset) (same-length z))
             go (stops w x) z = unfold next_answer in (let z : ◌≡◌ {A = ℕ} 0 1 = cc in absurd (omega arith))
 
         pub found-unread : {why : Refusal} {at : ℕ} → r ≡ Stops why at → Finds table lay batch f start end k (NotFound BadBatch)

@@ -4,7 +4,7 @@
 ghost use Rattle.std.specs.Prelude.{◌≡◌, ◌<◌, length};
 ghost use Rattle.wire.specs.Checked.{Good as GoodTable};
 ghost use Rattle.wire.specs.Table.{check as check_of};
-ghost use Rattle.desk.specs.BatchFound.{Part};
+ghost use Rattle.desk.specs.BatchFound.{Part as PartFound};
 ghost use Rattle.desk.specs.Batch.{batch_check, part_of, writes};
 ghost use Rattle.desk.specs.Compact.{compacts};
 ghost use Rattle.batches.specs.Search.{Searched};
@@ -14,10 +14,9 @@ ghost use Rattle.batch.specs.Compacting.{compacted_by};
 ghost use Rattle.batch.specs.Writing.{Fitting, made_by, Writes};
 ghost use Rattle.batch.specs.Opened.{Opens, Parted, Finds};
 
-use wire::{Layout, Refusal, RefusedAt};
-use laying::Tally;
 use desk::{Fault, Key, Part};
-use messages::{Fields, Message};
+use messages::Fields;
+use wire::{Layout, Refusal};
 
 // A batch taken apart by its trailer: its key fields, and where its rows start and end.
 #[derive(Clone, Copy)]
@@ -42,8 +41,7 @@ fn take_apart(table: &[u8], l: Layout, batch: &[u8]) -> Result<Parts, Fault>
     let end = len - TRAILER;
     let store = table::u16_at(batch, end + 8);
     let product = table::u16_at(batch, end + 10);
-    let found = messages::fields_of(table, l, store, product);
-    let Some(fields) = found else {
+    let Some(fields) = messages::fields_of(table, l, store, product) else {
         return Err(Fault::Fields);
     };
     let count = row::half(batch, end);
@@ -60,18 +58,11 @@ fn take_apart(table: &[u8], l: Layout, batch: &[u8]) -> Result<Parts, Fault>
 }
 
 // The message of a key that the rows in front of a turn lead to.
-fn find(
-    table: &[u8],
-    l: Layout,
-    f: Fields,
-    batch: &[u8],
-    start: usize,
-    end: usize,
-    key: Key,
-) -> Result<Part, Fault>
-    requires { Parted table.now l batch.now f start end }
-    ensures { Finds table.now l batch.now f start end key result }
+fn find(table: &[u8], l: Layout, parts: Parts, batch: &[u8], key: Key) -> Result<Part, Fault>
+    requires { Parted table.now l batch.now parts.fields parts.start parts.end }
+    ensures { Finds table.now l batch.now parts.fields parts.start parts.end key result }
 {
+    let Parts { fields, start, end } = parts;
     let turn = search::turn(&batch[start..end], key);
     if turn == 0 {
         return Err(Fault::Missing);
@@ -84,10 +75,12 @@ fn find(
     if start <= at {
         return Err(Fault::Batch);
     }
-    let next = messages::next(table, l, f, &batch[at..start]);
-    match next {
-        Err(RefusedAt { why: _, place: _ }) => Err(Fault::Batch),
-        Ok(Message { key: _, len }) => Ok(Part { from: at, len }),
+    match messages::next(table, l, fields, &batch[at..start]) {
+        Err(_) => Err(Fault::Batch),
+        Ok(message) => Ok(Part {
+            from: at,
+            len: message.len,
+        }),
     }
 }
 
@@ -95,24 +88,14 @@ fn find(
 pub fn last(table: &[u8], batch: &[u8], key: Key) -> Result<Part, Fault>
     ensures { Searched table.now batch.now key result }
 {
-    let checked = table::check(table);
-    match checked {
-        Err(RefusedAt { why, place }) => Err(Fault::Wire { why, place }),
-        Ok(layout) => {
-            let opened = take_apart(table, layout, batch);
-            match opened {
-                Err(why) => Err(why),
-                Ok(Parts { fields, start, end }) => {
-                    find(table, layout, fields, batch, start, end, key)
-                }
-            }
-        }
-    }
+    let layout = table::check(table)?;
+    let parts = take_apart(table, layout, batch)?;
+    find(table, layout, parts, batch, key)
 }
 
 // So many bytes of a batch from a place on, or none if they would reach beyond it.
 fn within<'a>(batch: &'a [u8], from: usize, len: usize) -> &'a [u8]
-    ensures { result.now ≡ part_of batch.now (Part from len) }
+    ensures { result.now ≡ part_of batch.now (PartFound from len) }
 {
     let size = batch.len();
     if size < from {
@@ -130,7 +113,7 @@ pub fn part<'a>(batch: &'a [u8], found: Result<Part, Fault>) -> &'a [u8]
     ensures { result.now ≡ part_of batch.now found }
 {
     match found {
-        Ok(Part { from, len }) => { within(batch, from, len) }
+        Ok(place) => within(batch, place.from, place.len),
         Err(_) => &batch[0..0],
     }
 }
@@ -162,22 +145,12 @@ fn judge(table: &[u8], l: Layout, f: Fields, front: &[u8], rows: &[u8]) -> bool
 pub fn check(table: &[u8], batch: &[u8]) -> Result<(), Fault>
     ensures { result ≡ batch_check table.now batch.now }
 {
-    let checked = table::check(table);
-    match checked {
-        Err(RefusedAt { why, place }) => Err(Fault::Wire { why, place }),
-        Ok(layout) => {
-            let opened = take_apart(table, layout, batch);
-            match opened {
-                Err(why) => Err(why),
-                Ok(Parts { fields, start, end }) => {
-                    if judge(table, layout, fields, &batch[..start], &batch[start..end]) {
-                        return Ok(());
-                    }
-                    Err(Fault::Batch)
-                }
-            }
-        }
+    let layout = table::check(table)?;
+    let Parts { fields, start, end } = take_apart(table, layout, batch)?;
+    if judge(table, layout, fields, &batch[..start], &batch[start..end]) {
+        return Ok(());
     }
+    Err(Fault::Batch)
 }
 
 // ---- writing
@@ -195,31 +168,27 @@ fn write_by(
     requires { Fitting table.now l f store product }
     ensures { Writes (made_by table.now l f bytes.now (length out.old)) out.old result out.new }
 {
-    let counted = laying::count(table, l, f, bytes);
-    match counted {
-        Err(RefusedAt { why, place }) => Err(Fault::Wire { why, place }),
-        Ok(Tally { count, last }) => {
-            if !laying::sizes_fit(count, last) {
-                return Err(Fault::Batch);
-            }
-            let behind = 16 * count + TRAILER;
-            let room = out.len();
-            let full = Fault::Wire {
-                why: Refusal::Full,
-                place: 0,
-            };
-            if room < behind {
-                return Err(full);
-            }
-            let front = bytes.len();
-            if room - behind < front {
-                return Err(full);
-            }
-            let total = front + behind;
-            laying::lay(table, l, f, bytes, count, store, product, &mut out[..total]);
-            Ok(total)
-        }
+    let tally = laying::count(table, l, f, bytes)?;
+    let count = tally.count;
+    if !laying::sizes_fit(count, tally.last) {
+        return Err(Fault::Batch);
     }
+    let behind = 16 * count + TRAILER;
+    let room = out.len();
+    let full = Fault::Wire {
+        why: Refusal::Full,
+        place: 0,
+    };
+    if room < behind {
+        return Err(full);
+    }
+    let front = bytes.len();
+    if room - behind < front {
+        return Err(full);
+    }
+    let end = front + behind;
+    laying::lay(table, l, f, bytes, count, store, product, &mut out[..end]);
+    Ok(end)
 }
 
 // Writes a batch of messages that stand end to end. Nothing is written unless all of it is.
@@ -232,17 +201,11 @@ pub fn write(
 ) -> Result<usize, Fault>
     ensures { Writes (writes table.now bytes.now store product (length out.old)) out.old result out.new }
 {
-    let checked = table::check(table);
-    match checked {
-        Err(RefusedAt { why, place }) => Err(Fault::Wire { why, place }),
-        Ok(layout) => {
-            let found = messages::fields_of(table, layout, store, product);
-            let Some(fields) = found else {
-                return Err(Fault::Fields);
-            };
-            write_by(table, layout, fields, bytes, store, product, out)
-        }
-    }
+    let layout = table::check(table)?;
+    let Some(fields) = messages::fields_of(table, layout, store, product) else {
+        return Err(Fault::Fields);
+    };
+    write_by(table, layout, fields, bytes, store, product, out)
 }
 
 // ---- compaction
@@ -329,22 +292,9 @@ fn compact_parts(
 pub fn compact(table: &[u8], batch: &[u8], out: &mut [u8]) -> Result<usize, Fault>
     ensures { Writes (compacts table.now batch.now (length out.old)) out.old result out.new }
 {
-    let checked = table::check(table);
-    match checked {
-        Err(RefusedAt { why, place }) => Err(Fault::Wire { why, place }),
-        Ok(layout) => {
-            let opened = take_apart(table, layout, batch);
-            match opened {
-                Err(why) => Err(why),
-                Ok(Parts { fields, start, end }) => compact_parts(
-                    table,
-                    layout,
-                    fields,
-                    &batch[..start],
-                    &batch[start..end],
-                    out,
-                ),
-            }
-        }
-    }
+    let layout = table::check(table)?;
+    let Parts { fields, start, end } = take_apart(table, layout, batch)?;
+    let front = &batch[..start];
+    let rows = &batch[start..end];
+    compact_parts(table, layout, fields, front, rows, out)
 }

@@ -3,6 +3,7 @@
 
 ghost use Rattle.std.specs.Prelude.{◌≡◌};
 ghost use Rattle.desk.specs.declared.NotRows.TheVariants.{Refused};
+ghost use Rattle.desk.specs.declared.Fault.TheVariants.{Wire};
 
 use wire::{Refusal, RefusedAt};
 
@@ -54,6 +55,17 @@ pub enum Fault {
     Fields,
     Batch,
     Missing,
+}
+
+impl From<RefusedAt> for Fault {
+    ghost from_gives = { λ refused fault. fault ≡ Wire refused.why refused.place };
+
+    fn from(refused: RefusedAt) -> Fault {
+        Fault::Wire {
+            why: refused.why,
+            place: refused.place,
+        }
+    }
 }
 
 // A part of a batch: where it starts, and its length.

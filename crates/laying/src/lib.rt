@@ -10,8 +10,8 @@ ghost use Rattle.messages.specs.Fields.{keys_of, KeyedBy};
 ghost use Rattle.laying.specs.Counts.{Counts, Whole, rows_for, ending, Laid, batch_for};
 
 use desk::Row;
-use messages::{Fields, Message};
-use wire::{Layout, Refusal, RefusedAt};
+use messages::Fields;
+use wire::{Layout, RefusedAt};
 
 // How many rows were laid, and where the last of them stands.
 #[derive(Clone, Copy)]
@@ -34,15 +34,16 @@ pub fn count(table: &[u8], l: Layout, f: Fields, bytes: &[u8]) -> Result<Tally, 
     let mut many = 0;
     let mut last = 0;
     while at < bytes.len() {
-        let next = messages::next(table, l, f, &bytes[at..]);
-        match next {
-            Err(RefusedAt { why, place }) => {
-                let there = at + place;
-                return Err(RefusedAt { why, place: there });
+        match messages::next(table, l, f, &bytes[at..]) {
+            Err(refused) => {
+                return Err(RefusedAt {
+                    why: refused.why,
+                    place: at + refused.place,
+                });
             }
-            Ok(Message { key: _, len }) => {
+            Ok(message) => {
                 last = at;
-                at = at + len;
+                at = at + message.len;
                 many = many + 1;
             }
         }
@@ -54,10 +55,7 @@ pub fn count(table: &[u8], l: Layout, f: Fields, bytes: &[u8]) -> Result<Tally, 
 pub fn sizes_fit(count: usize, last: usize) -> bool
     ensures { result ≡ both (ltb last (2 ^ 32)) (both (ltb count (2 ^ 32)) (ltb (16 * count) (2 ^ 32))) }
 {
-    if last <= FARTHEST {
-        return count <= MOST;
-    }
-    false
+    last <= FARTHEST && count <= MOST
 }
 
 // Puts a row for each message, in the messages' order.
@@ -69,14 +67,16 @@ pub fn put_rows(table: &[u8], l: Layout, f: Fields, bytes: &[u8], rows: &mut [u8
     let mut at = 0;
     let mut many = 0;
     while at < bytes.len() {
-        let next = messages::next(table, l, f, &bytes[at..]);
-        let Ok(Message { key, len }) = next else {
+        let Ok(message) = messages::next(table, l, f, &bytes[at..]) else {
             return;
         };
         let offset = at as u64;
-        let row = Row { key, offset };
+        let row = Row {
+            key: message.key,
+            offset,
+        };
         row::put(rows, many, row);
-        at = at + len;
+        at = at + message.len;
         many = many + 1;
     }
 }

@@ -10,7 +10,7 @@ ghost use Rattle.messages.specs.Fields.{keys_of, KeyedBy};
 ghost use Rattle.starts.specs.Window.{Window, Marks, Stands, AllStand, parts_in, Judges};
 
 use desk::Row;
-use messages::{Fields, Message};
+use messages::Fields;
 use wire::Layout;
 
 // How far starts are marked, and how many they are.
@@ -48,12 +48,11 @@ pub fn mark(
         if area.len() <= place / 8 {
             return Some(Upto { at, count });
         }
-        let next = messages::next(table, l, f, &front[at..]);
-        let Ok(Message { key: _, len }) = next else {
+        let Ok(message) = messages::next(table, l, f, &front[at..]) else {
             return None;
         };
         bits::mark(area, place);
-        at = at + len;
+        at = at + message.len;
         count = count + 1;
     }
     Some(Upto { at, count })
@@ -103,14 +102,11 @@ fn all_stand(
     requires window { Window (keys_of table.now l f) front.now base at area.now }
     ensures { AllStand (keys_of table.now l f) front.now base at (rows_in rows.now) result }
 {
-    let count = rows.len() / 16;
-    let mut i = 0;
-    while i < count {
+    for i in 0..rows.len() / 16 {
         let row = row::load(rows, i);
         if !stands(table, l, f, front, row, base, at, area) {
             return false;
         }
-        i = i + 1;
     }
     true
 }
@@ -132,15 +128,14 @@ fn by_windows(
     let mut base = 0;
     let mut count = 0;
     while base < front.len() {
-        let marked = mark(table, l, f, front, base, count, area);
-        let Some(Upto { at, count: many }) = marked else {
+        let Some(upto) = mark(table, l, f, front, base, count, area) else {
             return false;
         };
-        if !all_stand(table, l, f, front, rows, base, at, area) {
+        if !all_stand(table, l, f, front, rows, base, upto.at, area) {
             return false;
         }
-        base = at;
-        count = many;
+        base = upto.at;
+        count = upto.count;
     }
     count == rows.len() / 16
 }
@@ -154,14 +149,12 @@ fn rise(rows: &[u8]) -> bool
         return true;
     }
     let mut last = row::load(rows, 0);
-    let mut i = 1;
-    while i < count {
+    for i in 1..count {
         let next = row::load(rows, i);
         if !row::below(last, next) {
             return false;
         }
         last = next;
-        i = i + 1;
     }
     true
 }
@@ -186,8 +179,5 @@ pub fn judge(table: &[u8], l: Layout, f: Fields, front: &[u8], rows: &[u8], area
     requires area_nonzero { 0 < length area.old }
     ensures { Judges (parts_in table.now l f front.now rows.now) result }
 {
-    if rise(rows) {
-        return by_windows(table, l, f, front, rows, area);
-    }
-    false
+    rise(rows) && by_windows(table, l, f, front, rows, area)
 }

@@ -16,7 +16,7 @@ pub returns-then-start-at : goal.returns-then-start-at
 returns-then-start-at c = found-beyond _ c.requires c.turn-turn.ensures c.if-turn-eq0.false c.load-last.ensures c.same_key.ensures c.if-not-same_key.false c.if-start-at.true
 
 pub returns-in-Err : goal.returns-in-Err
-returns-in-Err c = found-unread _ c.requires c.turn-turn.ensures c.if-turn-eq0.false c.load-last.ensures c.same_key.ensures c.if-not-same_key.false c.if-start-at.false c.next-next.ensures c.in-Err.is
+returns-in-Err c = found-unread _ c.requires c.turn-turn.ensures c.if-turn-eq0.false c.load-last.ensures c.same_key.ensures c.if-not-same_key.false c.if-start-at.false c.next.ensures c.in-Err.is
 
 pub returns-in-Ok : goal.returns-in-Ok
-returns-in-Ok c = found-message _ c.requires c.turn-turn.ensures c.if-turn-eq0.false c.load-last.ensures c.same_key.ensures c.if-not-same_key.false c.if-start-at.false c.next-next.ensures c.in-Ok.is
+returns-in-Ok c = found-message _ c.requires c.turn-turn.ensures c.if-turn-eq0.false c.load-last.ensures c.same_key.ensures c.if-not-same_key.false c.if-start-at.false c.next.ensures c.in-Ok.is

@@ -1,6 +1,6 @@
 -- `batch::part` meets its contract.
 -- Assumes nothing.
-use Rattle.batch.proofs.Parts.{part-found, part-refused}
+use Rattle.batch.proofs.Handing.{part-found, part-refused}
 use Rattle.batch.proofs.part.Goals as goal
 
 pub returns-in-Ok : goal.returns-in-Ok

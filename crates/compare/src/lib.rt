@@ -31,19 +31,23 @@ fn refusal(table: &[u8], one: &[u8], other: &[u8]) -> Result<usize, NotCompared>
 {
     let first = reader::skim(table, one, compare_walk::ROOM);
     match first {
-        Err(Stopped {
-            why,
-            place,
-            count: _,
-        }) => Err(NotCompared::Refused { why, place }),
+        Err(
+            Stopped {
+                why,
+                place,
+                count: _,
+            },
+        ) => Err(NotCompared::Refused { why, place }),
         Ok(Reached { place: _, count: _ }) => {
             let second = reader::skim(table, other, compare_walk::ROOM);
             match second {
-                Err(Stopped {
-                    why,
-                    place,
-                    count: _,
-                }) => Err(NotCompared::OtherRefused { why, place }),
+                Err(
+                    Stopped {
+                        why,
+                        place,
+                        count: _,
+                    },
+                ) => Err(NotCompared::OtherRefused { why, place }),
                 // Neither is refused, which the walk rules out where this is called.
                 Ok(Reached { place: _, count: _ }) => Err(NotCompared::Short),
             }
@@ -101,13 +105,15 @@ fn compare_by(
     ensures { Compares (compares table.now one.now other.now) list.old result list.new }
 {
     let got = compare_walk::walk_root(table, l, one, other, words);
-    let Some(Gone {
-        one: _,
-        other: _,
-        ones: _,
-        others: _,
-        count,
-    }) = got
+    let Some(
+        Gone {
+            one: _,
+            other: _,
+            ones: _,
+            others: _,
+            count,
+        },
+    ) = got
     else {
         return refusal(table, one, other);
     };
@@ -150,7 +156,12 @@ fn compare_good(
 }
 
 // Compares two messages by a table: the places of the items that differ go into the list, in front and two words each.
-pub fn compare(table: &[u8], one: &[u8], other: &[u8], list: &mut [u64]) -> Result<usize, NotCompared>
+pub fn compare(
+    table: &[u8],
+    one: &[u8],
+    other: &[u8],
+    list: &mut [u64],
+) -> Result<usize, NotCompared>
     ensures { Compares (compares table.now one.now other.now) list.old result list.new }
 {
     let checked = table::check(table);

@@ -117,11 +117,13 @@ fn skim_front(
     }
     let got = reader::skim_row(table, l, node, from, which, part, place, ROOM, made);
     match got {
-        Err(Stopped {
-            why,
-            place: at,
-            count: _,
-        }) => Passed::Out {
+        Err(
+            Stopped {
+                why,
+                place: at,
+                count: _,
+            },
+        ) => Passed::Out {
             answer: Err(NotFound::Refused { why, place: at }),
         },
         Ok(Reached { place: at, count }) => Passed::In {
@@ -141,11 +143,11 @@ fn own_bytes(number: u8, part: &[u8]) -> Result<Own, Refusal>
     match number {
         15 => leaf::take_flag(part, Refusal::BadOption),
         _ => Ok(Own {
-                shortest: true,
-                first: 0,
-                second: 0,
-                used: 0,
-            }),
+            shortest: true,
+            first: 0,
+            second: 0,
+            used: 0,
+        }),
     }
 }
 
@@ -207,7 +209,14 @@ fn pass(
 }
 
 // The item at the path's end. It wants room too.
-fn take(table: &[u8], l: Layout, node: usize, part: &[u8], place: usize, made: usize) -> Result<Found, NotFound>
+fn take(
+    table: &[u8],
+    l: Layout,
+    node: usize,
+    part: &[u8],
+    place: usize,
+    made: usize,
+) -> Result<Found, NotFound>
     requires good_table { GoodTable table.now l }
     requires node_lt_nodes { node < l.nodes }
     requires node_value { is_field (node_kind (node_at table.now (record_of l node))) ≡ true }

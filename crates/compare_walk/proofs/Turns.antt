@@ -64,7 +64,7 @@ record Arrives (w : Left) (q q' m n c : ℕ) (s : List ℕ) : Type 0 where
   one : x.place ≡ q
   other : y.place ≡ q'
 
-same-both : {q q' m n c p p' a b d : ℕ} → Both q q' m n c ≡ Both p p' a b d → (q ≡ p) × (q' ≡ p') × (m ≡ a) × (n ≡ b) × (c ≡ d)
+pub same-both : {q q' m n c p p' a b d : ℕ} → Both q q' m n c ≡ Both p p' a b d → (q ≡ p) × (q' ≡ p') × (m ≡ a) × (n ≡ b) × (c ≡ d)
 same-both {q} {q'} {m} {n} {c} {p} {p'} {a} {b} {d} e =
     let same : ◌≡◌ {A = Gone} (record { one = q; other = q'; ones = m; others = n; count = c }) (record { one = p; other = p'; ones = a; others = b; count = d }) = cc in
     (ap (λ r. r.one) same, ap (λ r. r.other) same, ap (λ r. r.ones) same, ap (λ r. r.others) same, ap (λ r. r.count) same)

@@ -1,9 +1,8 @@
 -- The cycle of calls: an item, one with children, the rounds of the stretch that follows it, one round. The node's number falls from an item to those of its stretch.
 -- Assumes nothing.
 use mathlib.Core.Path.{sym, ◌∙◌}
-use Prim.Native.Nat.{ℕ, ◌+◌, ◌*◌, ◌-◌, ◌<◌, ◌≤◌}
+use Prim.Native.Nat.{◌+◌, ◌*◌, ◌<◌}
 use native.Mathlib.Omega.{arith}
-use lib.ListN.{length}
 use Rattle.laws.proofs.KindRanges.{is-inner, not-inner}
 use Rattle.laws.proofs.Parts.{length-tail}
 use Rattle.table.proofs.Stretches.{falls-first, falls-next, flat-falls}

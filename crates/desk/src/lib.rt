@@ -1,7 +1,11 @@
-// The answers of the questions that document 02 adds. It has no code: what they mean stands in specs/.
+// The answers of the questions that document 02 adds. What they mean stands in specs/.
 #![tactic(auto)]
 
-use wire::Refusal;
+ghost use Rattle.std.specs.Prelude.{◌≡◌};
+ghost use Rattle.desk.specs.declared.NotFound.TheVariants.{Refused as NotFoundAt};
+ghost use Rattle.desk.specs.declared.NotCompared.TheVariants.{Refused as NotComparedAt};
+
+use wire::{Refusal, RefusedAt};
 
 // An item that was found by its path: its entry's words, and its place.
 #[derive(Clone, Copy)]
@@ -20,6 +24,17 @@ pub enum NotFound {
     Refused { why: Refusal, place: usize },
 }
 
+impl From<RefusedAt> for NotFound {
+    ghost from_gives = { λ refused cause. cause ≡ NotFoundAt refused.why refused.place };
+
+    fn from(refused: RefusedAt) -> NotFound {
+        NotFound::Refused {
+            why: refused.why,
+            place: refused.place,
+        }
+    }
+}
+
 // Why two messages aren't compared: the lent list is too short for their pairs, or a refusal: the table's or the first message's, or
 // the second message's.
 #[derive(Clone, Copy)]
@@ -27,6 +42,17 @@ pub enum NotCompared {
     Short,
     Refused { why: Refusal, place: usize },
     OtherRefused { why: Refusal, place: usize },
+}
+
+impl From<RefusedAt> for NotCompared {
+    ghost from_gives = { λ refused cause. cause ≡ NotComparedAt refused.why refused.place };
+
+    fn from(refused: RefusedAt) -> NotCompared {
+        NotCompared::Refused {
+            why: refused.why,
+            place: refused.place,
+        }
+    }
 }
 
 // A store and a product, by which a message is asked for.

@@ -9,7 +9,7 @@ ghost use Rattle.compare.specs.Pairs.{refusal_of, Kept};
 ghost use Rattle.compare.specs.Promise.{Compares};
 
 use desk::NotCompared;
-use wire::{Layout, RefusedAt};
+use wire::Layout;
 
 // How many bytes the shorter of two messages has at most for so many words of pairs to be kept while both are judged. An item that
 // differs has a byte in each, so that the pairs of short messages always find room; and what is kept for is cleared first, so short
@@ -136,9 +136,6 @@ pub fn compare(
 ) -> Result<usize, NotCompared>
     ensures { Compares (compares table.now one.now other.now) list.old result list.new }
 {
-    let checked = table::check(table);
-    match checked {
-        Err(RefusedAt { why, place }) => Err(NotCompared::Refused { why, place }),
-        Ok(layout) => compare_good(table, layout, one, other, list),
-    }
+    let layout = table::check(table)?;
+    compare_good(table, layout, one, other, list)
 }

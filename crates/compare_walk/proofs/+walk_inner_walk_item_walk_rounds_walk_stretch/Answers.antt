@@ -160,50 +160,50 @@ walk_rounds-returns-in_err-gone t c =
 pub walk_rounds-overflow_sub-used : goal.walk_rounds-overflow_sub-used
 walk_rounds-overflow_sub-used t c =
     let gone = turned _ _ _ (row_kept _ _ _ _) _ _ _ _ _ _ _ _ _
-        (begun-at _ _ _ _ _ _ _ _ _ _ _ c.begin.ensures (rounds-turn _ _ _ _ _ _ _ _ _ _ _ _ _ _ c.loop-turns.invariant.0 c.loop-turns-test.true) c.in_ok-heads.was)
-        c.walk_stretch.ensures (begun-few c.begin.ensures c.in_ok-heads.was c.loop-turns.invariant.3) c.in_ok-gone.was in
+    (begun-at _ _ _ _ _ _ _ _ _ _ _ c.begin.ensures (rounds-turn _ _ _ _ _ _ _ _ _ _ _ _ _ _ c.loop-turns.invariant.0 c.loop-turns-test.true) c.in_ok-heads.was)
+    c.walk_stretch.ensures (begun-few c.begin.ensures c.in_ok-heads.was c.loop-turns.invariant.3) c.in_ok-gone.was in
     gone.0.one.up
 
 pub walk_rounds-slice_bounds-rest-count : goal.walk_rounds-slice_bounds-rest-count
 walk_rounds-slice_bounds-rest-count t c =
     let gone = turned _ _ _ (row_kept _ _ _ _) _ _ _ _ _ _ _ _ _
-        (begun-at _ _ _ _ _ _ _ _ _ _ _ c.begin.ensures (rounds-turn _ _ _ _ _ _ _ _ _ _ _ _ _ _ c.loop-turns.invariant.0 c.loop-turns-test.true) c.in_ok-heads.was)
-        c.walk_stretch.ensures (begun-few c.begin.ensures c.in_ok-heads.was c.loop-turns.invariant.3) c.in_ok-gone.was in
+    (begun-at _ _ _ _ _ _ _ _ _ _ _ c.begin.ensures (rounds-turn _ _ _ _ _ _ _ _ _ _ _ _ _ _ c.loop-turns.invariant.0 c.loop-turns-test.true) c.in_ok-heads.was)
+    c.walk_stretch.ensures (begun-few c.begin.ensures c.in_ok-heads.was c.loop-turns.invariant.3) c.in_ok-gone.was in
     gone.0.one.inside
 
 pub walk_rounds-slice_bounds-rest-start : goal.walk_rounds-slice_bounds-rest-start
 walk_rounds-slice_bounds-rest-start t c =
     let gone = turned _ _ _ (row_kept _ _ _ _) _ _ _ _ _ _ _ _ _
-        (begun-at _ _ _ _ _ _ _ _ _ _ _ c.begin.ensures (rounds-turn _ _ _ _ _ _ _ _ _ _ _ _ _ _ c.loop-turns.invariant.0 c.loop-turns-test.true) c.in_ok-heads.was)
-        c.walk_stretch.ensures (begun-few c.begin.ensures c.in_ok-heads.was c.loop-turns.invariant.3) c.in_ok-gone.was in
+    (begun-at _ _ _ _ _ _ _ _ _ _ _ c.begin.ensures (rounds-turn _ _ _ _ _ _ _ _ _ _ _ _ _ _ c.loop-turns.invariant.0 c.loop-turns-test.true) c.in_ok-heads.was)
+    c.walk_stretch.ensures (begun-few c.begin.ensures c.in_ok-heads.was c.loop-turns.invariant.3) c.in_ok-gone.was in
     gone.0.one.inside
 
 pub walk_rounds-overflow_sub-past : goal.walk_rounds-overflow_sub-past
 walk_rounds-overflow_sub-past t c =
     let gone = turned _ _ _ (row_kept _ _ _ _) _ _ _ _ _ _ _ _ _
-        (begun-at _ _ _ _ _ _ _ _ _ _ _ c.begin.ensures (rounds-turn _ _ _ _ _ _ _ _ _ _ _ _ _ _ c.loop-turns.invariant.0 c.loop-turns-test.true) c.in_ok-heads.was)
-        c.walk_stretch.ensures (begun-few c.begin.ensures c.in_ok-heads.was c.loop-turns.invariant.3) c.in_ok-gone.was in
+    (begun-at _ _ _ _ _ _ _ _ _ _ _ c.begin.ensures (rounds-turn _ _ _ _ _ _ _ _ _ _ _ _ _ _ c.loop-turns.invariant.0 c.loop-turns-test.true) c.in_ok-heads.was)
+    c.walk_stretch.ensures (begun-few c.begin.ensures c.in_ok-heads.was c.loop-turns.invariant.3) c.in_ok-gone.was in
     gone.0.other.up
 
 pub walk_rounds-slice_bounds-left-count : goal.walk_rounds-slice_bounds-left-count
 walk_rounds-slice_bounds-left-count t c =
     let gone = turned _ _ _ (row_kept _ _ _ _) _ _ _ _ _ _ _ _ _
-        (begun-at _ _ _ _ _ _ _ _ _ _ _ c.begin.ensures (rounds-turn _ _ _ _ _ _ _ _ _ _ _ _ _ _ c.loop-turns.invariant.0 c.loop-turns-test.true) c.in_ok-heads.was)
-        c.walk_stretch.ensures (begun-few c.begin.ensures c.in_ok-heads.was c.loop-turns.invariant.3) c.in_ok-gone.was in
+    (begun-at _ _ _ _ _ _ _ _ _ _ _ c.begin.ensures (rounds-turn _ _ _ _ _ _ _ _ _ _ _ _ _ _ c.loop-turns.invariant.0 c.loop-turns-test.true) c.in_ok-heads.was)
+    c.walk_stretch.ensures (begun-few c.begin.ensures c.in_ok-heads.was c.loop-turns.invariant.3) c.in_ok-gone.was in
     gone.0.other.inside
 
 pub walk_rounds-slice_bounds-left-start : goal.walk_rounds-slice_bounds-left-start
 walk_rounds-slice_bounds-left-start t c =
     let gone = turned _ _ _ (row_kept _ _ _ _) _ _ _ _ _ _ _ _ _
-        (begun-at _ _ _ _ _ _ _ _ _ _ _ c.begin.ensures (rounds-turn _ _ _ _ _ _ _ _ _ _ _ _ _ _ c.loop-turns.invariant.0 c.loop-turns-test.true) c.in_ok-heads.was)
-        c.walk_stretch.ensures (begun-few c.begin.ensures c.in_ok-heads.was c.loop-turns.invariant.3) c.in_ok-gone.was in
+    (begun-at _ _ _ _ _ _ _ _ _ _ _ c.begin.ensures (rounds-turn _ _ _ _ _ _ _ _ _ _ _ _ _ _ c.loop-turns.invariant.0 c.loop-turns-test.true) c.in_ok-heads.was)
+    c.walk_stretch.ensures (begun-few c.begin.ensures c.in_ok-heads.was c.loop-turns.invariant.3) c.in_ok-gone.was in
     gone.0.other.inside
 
 pub walk_rounds-loop-turns-preserved : goal.walk_rounds-loop-turns-preserved
 walk_rounds-loop-turns-preserved t c =
     let gone = turned _ _ _ (row_kept _ _ _ _) _ _ _ _ _ _ _ _ _
-        (begun-at _ _ _ _ _ _ _ _ _ _ _ c.begin.ensures (rounds-turn _ _ _ _ _ _ _ _ _ _ _ _ _ _ c.loop-turns.invariant.0 c.loop-turns-test.true) c.in_ok-heads.was)
-        c.walk_stretch.ensures (begun-few c.begin.ensures c.in_ok-heads.was c.loop-turns.invariant.3) c.in_ok-gone.was in
+    (begun-at _ _ _ _ _ _ _ _ _ _ _ c.begin.ensures (rounds-turn _ _ _ _ _ _ _ _ _ _ _ _ _ _ c.loop-turns.invariant.0 c.loop-turns-test.true) c.in_ok-heads.was)
+    c.walk_stretch.ensures (begun-few c.begin.ensures c.in_ok-heads.was c.loop-turns.invariant.3) c.in_ok-gone.was in
     (gone.1, gone.0.one.kept ∙ c.loop-turns.invariant.1, gone.0.other.kept ∙ c.loop-turns.invariant.2, gone.0.few, c.walk_stretch.auto.list ∙ c.loop-turns.invariant.4)
 
 pub walk_rounds-returns : goal.walk_rounds-returns
@@ -223,51 +223,50 @@ walk_stretch-returns-in_err-gone t c =
 pub walk_stretch-overflow_sub-used : goal.walk_stretch-overflow_sub-used
 walk_stretch-overflow_sub-used t c =
     let gone = turned _ _ _ (node_kept _ _ _) _ _ _ _ _ _ _ _ _
-        (row-turn _ _ _ _ _ _ _ _ _ _ _ _ c.loop-turns.invariant.0 c.loop-turns-test.true _ c.u16_at-c.ensures.0)
-        c.walk_item.ensures c.loop-turns.invariant.4 c.in_ok-gone.was in
+    (row-turn _ _ _ _ _ _ _ _ _ _ _ _ c.loop-turns.invariant.0 c.loop-turns-test.true _ c.u16_at-c.ensures.0)
+    c.walk_item.ensures c.loop-turns.invariant.4 c.in_ok-gone.was in
     gone.0.one.up
 
 pub walk_stretch-slice_bounds-rest-count : goal.walk_stretch-slice_bounds-rest-count
 walk_stretch-slice_bounds-rest-count t c =
     let gone = turned _ _ _ (node_kept _ _ _) _ _ _ _ _ _ _ _ _
-        (row-turn _ _ _ _ _ _ _ _ _ _ _ _ c.loop-turns.invariant.0 c.loop-turns-test.true _ c.u16_at-c.ensures.0)
-        c.walk_item.ensures c.loop-turns.invariant.4 c.in_ok-gone.was in
+    (row-turn _ _ _ _ _ _ _ _ _ _ _ _ c.loop-turns.invariant.0 c.loop-turns-test.true _ c.u16_at-c.ensures.0)
+    c.walk_item.ensures c.loop-turns.invariant.4 c.in_ok-gone.was in
     gone.0.one.inside
 
 pub walk_stretch-slice_bounds-rest-start : goal.walk_stretch-slice_bounds-rest-start
 walk_stretch-slice_bounds-rest-start t c =
     let gone = turned _ _ _ (node_kept _ _ _) _ _ _ _ _ _ _ _ _
-        (row-turn _ _ _ _ _ _ _ _ _ _ _ _ c.loop-turns.invariant.0 c.loop-turns-test.true _ c.u16_at-c.ensures.0)
-        c.walk_item.ensures c.loop-turns.invariant.4 c.in_ok-gone.was in
+    (row-turn _ _ _ _ _ _ _ _ _ _ _ _ c.loop-turns.invariant.0 c.loop-turns-test.true _ c.u16_at-c.ensures.0)
+    c.walk_item.ensures c.loop-turns.invariant.4 c.in_ok-gone.was in
     gone.0.one.inside
 
 pub walk_stretch-overflow_sub-past : goal.walk_stretch-overflow_sub-past
 walk_stretch-overflow_sub-past t c =
     let gone = turned _ _ _ (node_kept _ _ _) _ _ _ _ _ _ _ _ _
-        (row-turn _ _ _ _ _ _ _ _ _ _ _ _ c.loop-turns.invariant.0 c.loop-turns-test.true _ c.u16_at-c.ensures.0)
-        c.walk_item.ensures c.loop-turns.invariant.4 c.in_ok-gone.was in
+    (row-turn _ _ _ _ _ _ _ _ _ _ _ _ c.loop-turns.invariant.0 c.loop-turns-test.true _ c.u16_at-c.ensures.0)
+    c.walk_item.ensures c.loop-turns.invariant.4 c.in_ok-gone.was in
     gone.0.other.up
 
 pub walk_stretch-slice_bounds-left-count : goal.walk_stretch-slice_bounds-left-count
 walk_stretch-slice_bounds-left-count t c =
     let gone = turned _ _ _ (node_kept _ _ _) _ _ _ _ _ _ _ _ _
-        (row-turn _ _ _ _ _ _ _ _ _ _ _ _ c.loop-turns.invariant.0 c.loop-turns-test.true _ c.u16_at-c.ensures.0)
-        c.walk_item.ensures c.loop-turns.invariant.4 c.in_ok-gone.was in
+    (row-turn _ _ _ _ _ _ _ _ _ _ _ _ c.loop-turns.invariant.0 c.loop-turns-test.true _ c.u16_at-c.ensures.0)
+    c.walk_item.ensures c.loop-turns.invariant.4 c.in_ok-gone.was in
     gone.0.other.inside
 
 pub walk_stretch-slice_bounds-left-start : goal.walk_stretch-slice_bounds-left-start
 walk_stretch-slice_bounds-left-start t c =
     let gone = turned _ _ _ (node_kept _ _ _) _ _ _ _ _ _ _ _ _
-        (row-turn _ _ _ _ _ _ _ _ _ _ _ _ c.loop-turns.invariant.0 c.loop-turns-test.true _ c.u16_at-c.ensures.0)
-        c.walk_item.ensures c.loop-turns.invariant.4 c.in_ok-gone.was in
+    (row-turn _ _ _ _ _ _ _ _ _ _ _ _ c.loop-turns.invariant.0 c.loop-turns-test.true _ c.u16_at-c.ensures.0)
+    c.walk_item.ensures c.loop-turns.invariant.4 c.in_ok-gone.was in
     gone.0.other.inside
 
 pub walk_stretch-loop-turns-preserved : goal.walk_stretch-loop-turns-preserved
 walk_stretch-loop-turns-preserved t c =
     let gone = turned _ _ _ (node_kept _ _ _) _ _ _ _ _ _ _ _ _
-        (row-turn _ _ _ _ _ _ _ _ _ _ _ _ c.loop-turns.invariant.0 c.loop-turns-test.true _ c.u16_at-c.ensures.0)
-        c.walk_item.ensures c.loop-turns.invariant.4 c.in_ok-gone.was in
-    (
+    (row-turn _ _ _ _ _ _ _ _ _ _ _ _ c.loop-turns.invariant.0 c.loop-turns-test.true _ c.u16_at-c.ensures.0)
+    c.walk_item.ensures c.loop-turns.invariant.4 c.in_ok-gone.was in (
       gone.1,
       falls-next c.loop-turns.invariant.1 c.loop-turns-test.true,
       omega (arith, gone.0.one.kept),

@@ -29,10 +29,7 @@ fn is_open_root(number: u8) -> bool
     requires { is_kind number ≡ true }
     ensures { result ≡ is_open_root (kind_of number) }
 {
-    match number {
-        18 => true,
-        _ => number == 19,
-    }
+    number == 18 || number == 19
 }
 
 // Whether so many old children go with so many new ones.

@@ -5,7 +5,7 @@ use Rattle.std.specs.Prelude.{Err}
 use mathlib.Core.Path.{◌≡◌, refl, sym, ap, ap₂, ◌∙◌}
 use mathlib.Core.Bool.{true, false}
 use mathlib.Core.List.{List, ◌++◌}
-use Prim.Native.Nat.{ℕ, ◌+◌, ◌-◌, ◌*◌, ◌/◌, ◌≤◌, ◌<◌}
+use Prim.Native.Nat.{ℕ, ◌+◌, ◌*◌, ◌/◌, ◌≤◌, ◌<◌}
 use native.Mathlib.Nat.{zero-add}
 use native.Mathlib.Omega.{arith}
 use lib.ListN.{length, take, drop}
@@ -23,6 +23,7 @@ use Rattle.wire.specs.Walk.{walk}
 use Rattle.wire.specs.Table.{check, shape_of}
 use Rattle.wire.specs.Reading.{Spot, Outcome, reached, refused, Run, front, read, fit}
 use Rattle.wire.specs.Answers.{read_by, read_answer, run_answer, skims}
+use Rattle.laws.proofs.Answers.{same-refused}
 use Rattle.laws.proofs.ReadBy.{reads_plain}
 use Rattle.desk.specs.CompareAnswer.{CompareAnswer}
 use Rattle.desk.specs.CompareAnswer as answer
@@ -38,6 +39,7 @@ use Rattle.compare_walk.specs.Walked.{Walked}
 use Rattle.compare_walk.specs.Walked.{Both, Apart}
 use Rattle.compare_walk.specs.Steps.{Left, went, stopped, lay, Gives, goes, stops}
 use Rattle.compare_walk.proofs.Laying.{lay-over, lay-fits}
+use Rattle.compare_walk.proofs.Turns.{same-both}
 use Rattle.compare_walk.proofs.Items.{Fitted, all, cut, fitted}
 use Rattle.compare.specs.Pairs.{refusal_of, Kept}
 use Rattle.compare.specs.Promise.{Compares, OneComparison}
@@ -112,9 +114,8 @@ module _ (table one other : List ℕ) where
   refused-said : (o : Outcome) (n : ℕ) {why : Refusal} {p k : ℕ} → read_answer o n ≡ Refused why p k → o ≡ refused why p
   unfolding read_answer
   refused-said (reached x) n e = let z : ◌≡◌ {A = ℕ} 0 1 = cc in absurd (omega arith)
-  refused-said (refused why p) n {why = why'} {p = p'} e =
-      let same : why ≡ why' = cc in
-      let place : p ≡ p' = cc in
+  refused-said (refused why p) n e =
+      let (same, place, _) = same-refused e in
       rw (same, place)
 
   done-said : (o : Outcome) (n : ℕ) {p k : ℕ} → read_answer o n ≡ Done p k → (x : Spot) × (o ≡ reached x)
@@ -130,8 +131,7 @@ module _ (table one other : List ℕ) where
       go (Good l) h = unfold compare_by compare_reads in rw (refused-said _ _ (sym (said one l) ∙ h)) (unfold compare_runs refusal_of in refl)
       go (Err r) h =
           unfold read_by read_answer compare_by refusal_of in
-          let same : r.why ≡ why = cc in
-          let place : r.place ≡ p = cc in
+          let (same, place, _) = same-refused h in
           rw (same, place)
 
   pub second-refused : {a b : ReadAnswer} {q j : ℕ} {why : Refusal} {p k : ℕ} → a ≡ skims table one most_entries → b ≡ skims table other most_entries → a ≡ Done q j → b ≡ Refused why p k
@@ -173,8 +173,8 @@ module _ {s st : List ℕ} {w : Answered} {v : Walked} {q q' m n c : ℕ} (told 
   short-compares list h = go told e
     where
       go : {w : Answered} {v : Walked} → Told s v st w → v ≡ Both q q' m n c → Compares w list answer.Short list
-      go (done {c = d} {ps = ps} k l) e =
-          let same : d ≡ c = cc in
+      go (done {ps = ps} k l) e =
+          let (_, _, _, _, same) = same-both e in
           let no = no_room ps list (omega arith) in
           record { answered = unfold compare_answer in rw no (unfold pick in refl); listed = unfold list_after in rw no (unfold pick in refl) }
       go none e = let z : ◌≡◌ {A = ℕ} 0 1 = cc in absurd (omega arith)
@@ -183,7 +183,7 @@ module _ {s st : List ℕ} {w : Answered} {v : Walked} {q q' m n c : ℕ} (told 
   both-kept = go told e
     where
       go : {w : Answered} {v : Walked} → Told s v st w → v ≡ Both q q' m n c → Kept w c st
-      go (done {c = d} {ps = ps} k l) e = let same : d ≡ c = cc in record { them = ps; empty = s; answered = refl; counted = sym same ∙ k; listed = l }
+      go (done {ps = ps} k l) e = let (_, _, _, _, same) = same-both e in record { them = ps; empty = s; answered = refl; counted = sym same ∙ k; listed = l }
       go none e = let z : ◌≡◌ {A = ℕ} 0 1 = cc in absurd (omega arith)
 
 module _ {w : Answered} {c : ℕ} {words : List ℕ} (k : Kept w c words) (list : List ℕ) (room : c ≤ length list / 2) where

@@ -9,7 +9,6 @@ ghost use Rattle.wire.specs.Reading.{head};
 ghost use Rattle.laws.specs.KindRanges.{IsInt, IsInner, IsLeaf};
 ghost use Rattle.laws.specs.Tables.{GoodTable};
 ghost use Rattle.read_item.specs.Steps.{spot, Inner, own_of};
-ghost use Rattle.desk.specs.Differ.{same_bytes};
 ghost use Rattle.beside.specs.Meeting.{same_own};
 ghost use Rattle.compare_item.specs.Pairs.{with_pair};
 ghost use Rattle.compare_item.specs.Items.{Whole, taken_numbers, taken_both, entered_both};
@@ -60,30 +59,11 @@ pub fn put(list: &mut [u64], at: usize, one: usize, other: usize)
 
 // ---- when two leaves differ
 
-fn same_bytes(s: &[u8], t: &[u8]) -> bool
-    ensures { result ≡ same_bytes s.now t.now }
-{
-    if s.len() != t.len() {
-        return false;
-    }
-    let mut i = 0;
-    while i < s.len() {
-        if s[i] != t[i] {
-            return false;
-        }
-        i += 1;
-    }
-    true
-}
-
 // Whether a kind is one of texts or of bytes.
 fn is_pooled(number: u8) -> bool
     ensures { result ≡ is_pooled (kind_of number) }
 {
-    match number {
-        12..=13 => true,
-        _ => false,
-    }
+    matches!(number, 12..=13)
 }
 
 // Texts and bytes compare by content, other leaves by their first words.
@@ -97,11 +77,9 @@ fn same_leaf(number: u8, mine: Own, part: &[u8], its: Own, other: &[u8]) -> bool
         let from = end - mine.second as usize;
         let behind = its.used;
         let start = behind - its.second as usize;
-        return same_bytes(&part[from..end], &other[start..behind]);
+        return part[from..end] == other[start..behind];
     }
-    let here = mine.first;
-    let there = its.first;
-    here == there
+    mine.first == its.first
 }
 
 // ---- a leaf on both sides
@@ -116,9 +94,8 @@ fn both(got: Result<Own, Refusal>, there: Result<Own, Refusal>) -> Option<Sides>
     let Ok(b) = there else {
         return None;
     };
-    let same = a.first == b.first;
     Some(Sides {
-        same,
+        same: a.first == b.first,
         used: a.used,
         other: b.used,
     })

@@ -12,11 +12,7 @@ use wire::{Refusal, RefusedAt, Taken};
 fn may_take(kind: u64) -> bool
     ensures { result ≡ may_take kind }
 {
-    match kind {
-        0..=13 => true,
-        20..=31 => true,
-        _ => false,
-    }
+    matches!(kind, 0..=13 | 20..=31)
 }
 
 // The item of a kind at a place of the message.
@@ -55,8 +51,8 @@ pub fn place_after(place: usize, answer: Result<Taken, RefusedAt>) -> usize
     ensures { result ≡ place_after place answer }
 {
     match answer {
-        Ok(Taken { place: behind, .. }) => behind,
-        Err(RefusedAt { .. }) => place,
+        Ok(taken) => taken.place,
+        Err(_) => place,
     }
 }
 

@@ -2,8 +2,10 @@
 #![tactic(auto)]
 
 ghost use Rattle.std.specs.Prelude.{◌≡◌};
-ghost use Rattle.desk.specs.declared.NotRows.TheVariants.{Refused};
+ghost use Rattle.desk.specs.declared.NotRows.TheVariants.{Refused as NotRowsAt};
 ghost use Rattle.desk.specs.declared.Fault.TheVariants.{Wire};
+ghost use Rattle.desk.specs.declared.NotFound.TheVariants.{Refused as NotFoundAt};
+ghost use Rattle.desk.specs.declared.NotCompared.TheVariants.{Refused as NotComparedAt};
 
 use wire::{Refusal, RefusedAt};
 
@@ -24,6 +26,17 @@ pub enum NotFound {
     Refused { why: Refusal, place: usize },
 }
 
+impl From<RefusedAt> for NotFound {
+    ghost from_gives = { λ refused cause. cause ≡ NotFoundAt refused.why refused.place };
+
+    fn from(refused: RefusedAt) -> NotFound {
+        NotFound::Refused {
+            why: refused.why,
+            place: refused.place,
+        }
+    }
+}
+
 // Why two messages aren't compared: the lent list is too short for their pairs, or a refusal: the table's or the first message's, or
 // the second message's.
 #[derive(Clone, Copy)]
@@ -31,6 +44,17 @@ pub enum NotCompared {
     Short,
     Refused { why: Refusal, place: usize },
     OtherRefused { why: Refusal, place: usize },
+}
+
+impl From<RefusedAt> for NotCompared {
+    ghost from_gives = { λ refused cause. cause ≡ NotComparedAt refused.why refused.place };
+
+    fn from(refused: RefusedAt) -> NotCompared {
+        NotCompared::Refused {
+            why: refused.why,
+            place: refused.place,
+        }
+    }
 }
 
 // A store and a product, by which a message is asked for.
@@ -97,7 +121,7 @@ pub enum NotRows {
 
 // A refusal of the wire is one of an export or an import.
 impl From<RefusedAt> for NotRows {
-    ghost from_gives = { λ r e. e ≡ Refused r.why r.place };
+    ghost from_gives = { λ r e. e ≡ NotRowsAt r.why r.place };
 
     fn from(r: RefusedAt) -> NotRows {
         NotRows::Refused {

@@ -22,8 +22,8 @@ use Rattle.laws.proofs.Splits.{by-lt}
 use Rattle.laws.proofs.Areas.{area-short, asks-short, asks-long}
 use Rattle.laws.proofs.Tables.{good-table, within-limits}
 use Rattle.append.specs.Compare.{Begun}
-use Rattle.parting.specs.declared.Parting.{Parting}
-use Rattle.parting.specs.declared.Parting.TheVariants.{Appends, Apart, Refused, ShortArea}
+use Rattle.parting.specs.PartAnswer.{PartAnswer}
+use Rattle.parting.specs.PartAnswer.{Appends, Apart, Refused, ShortArea}
 use Rattle.parting.specs.Parting.{parting, parting_by, Parted, parted_by, parted, parted_within}
 use Rattle.parting.specs.Pairs.{parting_at, Stored}
 use Rattle.parting.specs.Promise.{Parts, Finds, OneParting, PartAt, PartsThere, FirstWords}
@@ -45,7 +45,7 @@ module _ (old new area path : List ℕ) where
   unfolding parted parted_within
   within h = rw (asks-long area old new h)
 
-  pub finds-long : {r : Parting} {area' path' : List ℕ} → area_bytes ≤ length area → Parts (parted_within old new) path r path' → area' ≡ area_after area
+  pub finds-long : {r : PartAnswer} {area' path' : List ℕ} → area_bytes ≤ length area → Parts (parted_within old new) path r path' → area' ≡ area_after area
       → Finds old new area path r area' path'
   finds-long h p e = record { parts = rw (within h) p; handed = e }
 

@@ -1,3 +1,4 @@
+pub mod PartAnswer
 pub mod Parting
 pub mod Pairs
 pub mod Promise

@@ -10,8 +10,8 @@ use Rattle.wire.specs.Shape.{same_kind, Shape, node, Shapes, none, more}
 use Rattle.wire.specs.Table.{check, shape_of}
 use Rattle.wire.specs.Append.{matches}
 use Rattle.wire.specs.Answers.{ask_by, asks}
-use Rattle.parting.specs.declared.Parting.{Parting}
-use Rattle.parting.specs.declared.Parting.TheVariants.{Appends, Apart, Refused, ShortArea}
+use Rattle.parting.specs.PartAnswer.{PartAnswer}
+use Rattle.parting.specs.PartAnswer.{Appends, Apart, Refused, ShortArea}
 
 -- where an old shape and a new one part: from the root down, the position of the first child, in the shapes' order, that doesn't match; none where the two differ by themselves, in their kinds or in how many children they have
 unfoldable mutual
@@ -32,7 +32,7 @@ parting_by (Err r) c old new = []
 
 -- an answer, and the positions that it stores
 pub record Parted : Type 0 where
-  pub answer : Parting
+  pub answer : PartAnswer
   pub positions : List ℕ
 
 -- what is answered after the append question, where the tables part at p

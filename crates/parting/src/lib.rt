@@ -10,7 +10,7 @@ ghost use Rattle.parting.specs.Parting.{parted_within};
 ghost use Rattle.parting.specs.Pairs.{parting_at, Followed, Stored};
 ghost use Rattle.parting.specs.Promise.{Parts, Finds};
 
-use wire::{Layout, Refusal, RefusedAt, Side};
+use wire::{Layout, NotAsked, RefusedAt, Side};
 
 // A step down to two children, the position of both, and the nodes.
 #[derive(Clone, Copy)]
@@ -23,19 +23,11 @@ struct Down {
 // How many positions a path has room for: one for each node of a good table's longest chain of children, and its last node takes none.
 const ROOM: usize = 256;
 
-// The new table only appends; or they part so many positions down; or one of them is not good, why and at which node; or the work area is too short.
+// What two tables come to: the new one only appends to the old one, or they part so many positions down.
 #[derive(Clone, Copy)]
 pub enum Parting {
     Appends,
-    Apart {
-        depth: usize,
-    },
-    Refused {
-        side: Side,
-        why: Refusal,
-        place: usize,
-    },
-    ShortArea,
+    Apart { depth: usize },
 }
 
 // The first pair of children that doesn't match, where the kinds are the same.
@@ -113,45 +105,56 @@ fn of_good(
     m: Layout,
     area: &mut [u8],
     path: &mut [u64; ROOM],
-) -> Parting
+) -> Result<Parting, NotAsked>
     requires value { (check_of old.now ≡ Good l) × (check_of new.now ≡ Good m) }
     requires area_bytes_in_bounds { area_bytes ≤ length area.old }
     ensures { Parts (parted_within old.now new.now) path.old result path.new }
 {
     if append::roots_append(old, l, new, m, area) {
-        return Parting::Appends;
+        return Ok(Parting::Appends);
     }
     let depth = go_down(old, l, new, m, area, path);
-    Parting::Apart { depth }
+    Ok(Parting::Apart { depth })
 }
 
 // The answer where the old table is good.
-fn after_old(old: &[u8], l: Layout, new: &[u8], area: &mut [u8], path: &mut [u64; ROOM]) -> Parting
+fn after_old(
+    old: &[u8],
+    l: Layout,
+    new: &[u8],
+    area: &mut [u8],
+    path: &mut [u64; ROOM],
+) -> Result<Parting, NotAsked>
     requires value { check_of old.now ≡ Good l }
     requires area_bytes_in_bounds { area_bytes ≤ length area.old }
     ensures { Parts (parted_within old.now new.now) path.old result path.new }
 {
     match table::check(new) {
-        Err(RefusedAt { why, place }) => Parting::Refused {
+        Err(RefusedAt { why, place }) => Err(NotAsked::Table {
             side: Side::New,
             why,
             place,
-        },
+        }),
         Ok(layout) => of_good(old, l, new, layout, area, path),
     }
 }
 
 // The answer where the work area is long enough.
-fn find_within(old: &[u8], new: &[u8], area: &mut [u8], path: &mut [u64; ROOM]) -> Parting
+fn find_within(
+    old: &[u8],
+    new: &[u8],
+    area: &mut [u8],
+    path: &mut [u64; ROOM],
+) -> Result<Parting, NotAsked>
     requires { area_bytes ≤ length area.old }
     ensures { Parts (parted_within old.now new.now) path.old result path.new }
 {
     match table::check(old) {
-        Err(RefusedAt { why, place }) => Parting::Refused {
+        Err(RefusedAt { why, place }) => Err(NotAsked::Table {
             side: Side::Old,
             why,
             place,
-        },
+        }),
         Ok(layout) => after_old(old, layout, new, area, path),
     }
 }
@@ -163,7 +166,7 @@ fn find_and_clear(
     area: &mut [u8],
     size: usize,
     path: &mut [u64; ROOM],
-) -> Parting
+) -> Result<Parting, NotAsked>
     requires { (area_bytes ≡ size) × (size ≤ length area.old) }
     ensures { Finds old.now new.now area.old path.old result area.new path.new }
 {
@@ -172,13 +175,19 @@ fn find_and_clear(
     answer
 }
 
-// Where the new table parts from the old one: the positions from the roots down stand in the path's first words, and no other word changes; none where the new one only appends, or one of them is not good.
+// Where the new table parts from the old one: the positions from the roots down stand in the path's first words, and no other word
+// changes; none where the new one only appends. It is refused where one of them is not good, or the work area is too short.
 // The work area is that of the append question, and comes back as from there.
-pub fn find(old: &[u8], new: &[u8], area: &mut [u8], path: &mut [u64; ROOM]) -> Parting
+pub fn find(
+    old: &[u8],
+    new: &[u8],
+    area: &mut [u8],
+    path: &mut [u64; ROOM],
+) -> Result<Parting, NotAsked>
     ensures { Finds old.now new.now area.old path.old result area.new path.new }
 {
     if append::AREA <= area.len() {
         return find_and_clear(old, new, area, append::AREA, path);
     }
-    Parting::ShortArea
+    Err(NotAsked::ShortArea)
 }

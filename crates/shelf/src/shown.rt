@@ -3,7 +3,7 @@ use crate::files;
 use parting::Parting;
 use say::{say, say_why, say_with};
 use std::io;
-use wire::Refusal;
+use wire::{NotAsked, Refusal};
 
 // A refusal of the table, of a message or of the room of so many bytes for what is written, with its place.
 pub fn say_refusal(
@@ -54,9 +54,13 @@ pub fn ask(rt: &impl Print, old: &[u8], new: &[u8]) -> io::Result<()> {
     let mut area = work_area();
     let mut path = [0u64; 256];
     match parting::find(old, new, &mut area, &mut path) {
-        Parting::Appends => say(rt, b"yes: the new table only appends to the old one.\n"),
-        Parting::Apart { depth } => listing::apart::show(rt, old, new, &path, depth),
-        Parting::Refused { side, why, place } => listing::apart::show_bad(rt, side, why, place),
-        Parting::ShortArea => say(rt, b"the work area is too short.\n"),
+        Ok(parted) => match parted {
+            Parting::Appends => say(rt, b"yes: the new table only appends to the old one.\n"),
+            Parting::Apart { depth } => listing::apart::show(rt, old, new, &path, depth),
+        },
+        Err(cause) => match cause {
+            NotAsked::Table { side, why, place } => listing::apart::show_bad(rt, side, why, place),
+            NotAsked::ShortArea => say(rt, b"the work area is too short.\n"),
+        },
     }
 }

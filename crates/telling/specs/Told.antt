@@ -2,11 +2,9 @@
 -- Assumes nothing.
 use Rattle.std.specs.Prelude.{◌≡◌, ℕ, Err, Ok}
 use Rattle.wire.specs.ReadAnswer.{ReadAnswer}
-use Rattle.wire.specs.ReadAnswer.{Done, Refused as NotRead}
 use Rattle.wire.specs.AskAnswer.{AskAnswer}
 use Rattle.wire.specs.AskAnswer.{Says, Refused as NotAsked, ShortArea}
 use Rattle.wire.specs.TakeAnswer.{TakeAnswer}
-use Rattle.wire.specs.TakeAnswer.{Done as Taken, Refused as NotTaken}
 use Rattle.wire.specs.Answers.{side_number, yes_number, Numbered, read_says, take_says, ask_says, place_after}
 use Rattle.desk.specs.OpenAnswer.{OpenAnswer}
 use Rattle.desk.specs.Listed.{open_says, open_count}

@@ -19,9 +19,9 @@ pub fn checked(got: Result<Layout, RefusedAt>, place: &mut u64) -> u64
             *place = 0;
             0
         }
-        Err(RefusedAt { why, place: node }) => {
-            *place = node as u64;
-            numbers::refusal(why)
+        Err(refused) => {
+            *place = refused.place as u64;
+            numbers::refusal(refused.why)
         }
     }
 }
@@ -30,26 +30,15 @@ pub fn reading(got: Result<Reached, Stopped>, place: &mut u64, count: &mut u64) 
     ensures { Counted got result place.new count.new }
 {
     match got {
-        Ok(
-            Reached {
-                place: end,
-                count: made,
-            },
-        ) => {
-            *place = end as u64;
-            *count = made as u64;
+        Ok(reached) => {
+            *place = reached.place as u64;
+            *count = reached.count as u64;
             0
         }
-        Err(
-            Stopped {
-                why,
-                place: at,
-                count: made,
-            },
-        ) => {
-            *place = at as u64;
-            *count = made as u64;
-            numbers::refusal(why)
+        Err(stopped) => {
+            *place = stopped.place as u64;
+            *count = stopped.count as u64;
+            numbers::refusal(stopped.why)
         }
     }
 }
@@ -59,14 +48,9 @@ pub fn opened(got: Result<Reached, NotOpened>, place: &mut u64, count: &mut u64)
     ensures { CountedOpen got result place.new count.new }
 {
     match got {
-        Ok(
-            Reached {
-                place: end,
-                count: made,
-            },
-        ) => {
-            *place = end as u64;
-            *count = made as u64;
+        Ok(reached) => {
+            *place = reached.place as u64;
+            *count = reached.count as u64;
             0
         }
         Err(cause) => match cause {
@@ -96,9 +80,9 @@ pub fn written(got: Result<usize, RefusedAt>, place: &mut u64) -> u64
             *place = end as u64;
             0
         }
-        Err(RefusedAt { why, place: at }) => {
-            *place = at as u64;
-            numbers::refusal(why)
+        Err(refused) => {
+            *place = refused.place as u64;
+            numbers::refusal(refused.why)
         }
     }
 }
@@ -139,10 +123,7 @@ pub fn asked(got: Result<bool, NotAsked>, place: &mut u64, which: &mut u64, yes:
 pub fn is_waiting(mark: u64) -> bool
     ensures { result ≡ waits mark }
 {
-    if mark == 0 {
-        return false;
-    }
-    true
+    mark != 0
 }
 
 // The mark behind a feed: 24 leaves it as it was.
@@ -169,25 +150,18 @@ pub fn taken(
     ensures { Took got place.old result place.new first.new second.new at.new }
 {
     match got {
-        Ok(
-            Taken {
-                first: a,
-                second: b,
-                at: here,
-                place: behind,
-            },
-        ) => {
-            *place = behind as u64;
-            *first = a;
-            *second = b;
-            *at = here as u64;
+        Ok(item) => {
+            *place = item.place as u64;
+            *first = item.first;
+            *second = item.second;
+            *at = item.at as u64;
             0
         }
-        Err(RefusedAt { why, place: _ }) => {
+        Err(refused) => {
             *first = 0;
             *second = 0;
             *at = 0;
-            numbers::refusal(why)
+            numbers::refusal(refused.why)
         }
     }
 }
@@ -203,16 +177,10 @@ pub fn found(
     *first = 0;
     *second = 0;
     match got {
-        Ok(
-            Found {
-                first: x,
-                second: y,
-                place: at,
-            },
-        ) => {
-            *place = at as u64;
-            *first = x;
-            *second = y;
+        Ok(entry) => {
+            *place = entry.place as u64;
+            *first = entry.first;
+            *second = entry.second;
             0
         }
         Err(cause) => match cause {
@@ -318,15 +286,10 @@ pub fn part(got: Result<Part, Fault>, place: &mut u64, from: &mut u64, len: &mut
     *from = 0;
     *len = 0;
     match got {
-        Ok(
-            Part {
-                from: start,
-                len: size,
-            },
-        ) => {
+        Ok(stretch) => {
             *place = 0;
-            *from = start as u64;
-            *len = size as u64;
+            *from = stretch.from as u64;
+            *len = stretch.len as u64;
             0
         }
         Err(why) => fault(why, place),

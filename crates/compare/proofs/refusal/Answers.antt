@@ -7,7 +7,7 @@ pub returns-in-Err : goal.returns-in-Err
 returns-in-Err c = first-refused _ _ _ c.skim-first.ensures c.in-Err.is
 
 pub returns-in-Err-second : goal.returns-in-Err-second
-returns-in-Err-second c = second-refused _ _ _ c.skim-first.ensures c.skim-second.ensures c.in-Ok.is c.in-Err-second.is
+returns-in-Err-second c = second-refused _ _ _ c.skim-first.ensures c.skim-second.ensures c.in_default.is c.in-Err-second.is
 
-pub returns-in-Ok-second : goal.returns-in-Ok-second
-returns-in-Ok-second c = none-refused _ _ _ c.skim-first.ensures c.skim-second.ensures c.in-Ok.is c.in-Ok-second.is
+pub returns : goal.returns
+returns c = none-refused _ _ _ c.skim-first.ensures c.skim-second.ensures c.in_default.is c.in_default-second.is

@@ -6,8 +6,8 @@ use native.Mathlib.Omega.{arith}
 use Rattle.find.proofs.Seeking.{no_room, field-refused, field_found}
 use Rattle.find.proofs.take.Goals as goal
 
-pub returns-then-made-ge-ROOM : goal.returns-then-made-ge-ROOM
-returns-then-made-ge-ROOM c = let p = c.requires in sym (no_room p.good_table p.node_lt_nodes _ _ _ [] c.if-made-ge-ROOM.true)
+pub returns-then-at-ge-ROOM : goal.returns-then-at-ge-ROOM
+returns-then-at-ge-ROOM c = let p = c.requires in sym (no_room p.good_table p.node_lt_nodes _ _ _ [] c.if-at-ge-ROOM.true)
 
 pub returns-in-Err : goal.returns-in-Err
 returns-in-Err c = let p = c.requires in

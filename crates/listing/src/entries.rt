@@ -157,11 +157,11 @@ fn show_made(
 
 // What reading a message by a table answered: the entries in the store, with their places and bytes where they are asked for,
 // and the rest or why it is refused.
-pub fn show(
+pub fn show<'a>(
     rt: &impl Print,
     table: &[u8],
-    message: &[u8],
-    store: &[u64],
+    message: &'a [u8],
+    store: &'a [u64],
     answer: Result<Reached, Stopped>,
     rest: &[u8],
     bytes: bool,
@@ -179,11 +179,11 @@ pub fn show(
 
 // What reading a message strictly by a table answered: the entries that a plain reading left in the store, as far as the strict
 // one goes, with their places and bytes; last the item, if one there is, that isn't in its shortest form.
-pub fn show_strictly(
+pub fn show_strictly<'a>(
     rt: &impl Print,
     table: &[u8],
-    message: &[u8],
-    store: &[u64],
+    message: &'a [u8],
+    store: &'a [u64],
     strict: Result<Reached, Stopped>,
     plain: Result<Reached, Stopped>,
     rest: &[u8],
@@ -199,12 +199,12 @@ pub fn show_strictly(
 
 // The items in which a message differs from another, each under its way: the entries that were made, and the other's lined up
 // with them.
-pub fn show_changes(
+pub fn show_changes<'a>(
     rt: &impl Print,
     table: &[u8],
-    message: &[u8],
-    words: &[u64],
-    beside: Beside,
+    message: &'a [u8],
+    words: &'a [u64],
+    beside: Beside<'a>,
 ) -> io::Result<()> {
     match table::check(table) {
         Err(bad) => say_bad(rt, bad),

@@ -8,7 +8,7 @@ use Rattle.wire.specs.AskAnswer.{Says, Refused as NotAsked, ShortArea}
 use Rattle.wire.specs.Answers.{side_number, yes_number, Numbered}
 use Rattle.desk.specs.CompareAnswer.{CompareAnswer}
 use Rattle.desk.specs.CompareAnswer.{Done as Compared, Short, Refused as NotCompared, OtherRefused}
-use Rattle.replay.specs.declared.answers.Told.{Told}
+use Rattle.replay.specs.declared.told.Told.{Told}
 
 -- document 01's number and place, and a third number
 pub record Tells (n : Numbered) (third : ℕ) (r : Told) : Type 0 where

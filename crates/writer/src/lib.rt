@@ -217,9 +217,6 @@ fn write_list(
 pub fn write(table: &[u8], words: &[u64], pool: &[u8], out: &mut [u8]) -> Result<usize, RefusedAt>
     ensures { Writes (writes table.now words.now pool.now (length out.old)) out.old result out.new }
 {
-    let checked = table::check(table);
-    match checked {
-        Err(RefusedAt { why, place }) => Err(RefusedAt { why, place }),
-        Ok(layout) => write_list(table, layout, words, pool, out),
-    }
+    let layout = table::check(table)?;
+    write_list(table, layout, words, pool, out)
 }

@@ -22,16 +22,29 @@ fn say_fault(rt: &impl Print, fault: Fault) -> io::Result<()> {
     }
 }
 
-// Writes a batch, with the fields of the command's words 5 and 6. No root has a field at a place that doesn't fit 64 bits.
-fn write(rt: &impl Runtime, table: &[u8], messages: &[u8]) -> io::Result<()> {
-    let (Some(store), Some(product)) = (decimal::at_most(rt, 5), decimal::at_most(rt, 6)) else {
-        return println!(rt; "a field is a number in decimal");
-    };
+fn write(
+    rt: &impl Runtime,
+    table: &[u8],
+    messages: &[u8],
+    store: u64,
+    product: u64,
+) -> io::Result<()> {
     let mut out = largest_room();
     match batch::write(table, messages, store as usize, product as usize, &mut out) {
         Ok(place) => files::save(rt, 7, front(&out, place)),
         Err(fault) => say_fault(rt, fault),
     }
+}
+
+// Writes a batch of the messages that the command's word 4 names, with the fields of words 5 and 6. No root has a field at a
+// place that doesn't fit 64 bits.
+fn write_messages(rt: &impl Runtime, table: &[u8]) -> io::Result<()> {
+    let (Some(store), Some(product)) = (decimal::at_most(rt, 5), decimal::at_most(rt, 6)) else {
+        return println!(rt; "a field is a number in decimal");
+    };
+    with(rt, 4, &mut large_room(), |messages| {
+        write(rt, table, messages, store, product)
+    })
 }
 
 fn check(rt: &impl Print, table: &[u8], batch: &[u8]) -> io::Result<()> {
@@ -90,9 +103,7 @@ pub fn run(rt: &impl Runtime, n: usize) -> io::Result<()> {
     let mut room = host::buffer();
     match host::word(rt, 2, &mut room) {
         b"write" if n == 8 => with(rt, 3, &mut large_room(), |table| {
-            with(rt, 4, &mut large_room(), |messages| {
-                write(rt, table, messages)
-            })
+            write_messages(rt, table)
         }),
         b"check" if n == 5 => with_batch(rt, |table, batch| check(rt, table, batch)),
         b"last" if n == 7 => with_batch(rt, |table, batch| last(rt, table, batch)),

@@ -2,22 +2,9 @@
 // without an error. The same field at the end does no harm.
 #![tactic(auto)]
 
-use say::{say, say_number};
+use say::Signed;
 use std::io;
-use wire::{AskAnswer, ReadAnswer};
-
-fn say_counted(rt: &impl Print, text: &[u8], n: u64) -> io::Result<()> {
-    say(rt, text)?;
-    say_number(rt, n)
-}
-
-fn say_signed(rt: &impl Print, text: &[u8], word: u64) -> io::Result<()> {
-    say(rt, text)?;
-    if readable::is_negative(word) {
-        say(rt, b"-")?;
-    }
-    say_number(rt, readable::size(word))
-}
+use wire::NotAsked;
 
 // A work area for the append question.
 fn work_area() -> [u8; append::AREA] {
@@ -27,38 +14,25 @@ fn work_area() -> [u8; append::AREA] {
 fn say_question(rt: &impl Print, old: &[u8], new: &[u8]) -> io::Result<()> {
     let mut area = work_area();
     match append::appends(old, new, &mut area) {
-        AskAnswer::Says { yes } => {
-            if yes {
-                say(rt, b"yes, it only appends.\n")
-            } else {
-                say(rt, b"no, it does not only append.\n")
-            }
-        }
-        AskAnswer::Refused {
-            side: _,
-            why: _,
-            place: _,
-        } => say(rt, b"a table is not good.\n"),
-        AskAnswer::ShortArea => say(rt, b"the work area is too short.\n"),
+        Ok(true) => println!(rt; "yes, it only appends."),
+        Ok(false) => println!(rt; "no, it does not only append."),
+        Err(NotAsked::Table { .. }) => println!(rt; "a table is not good."),
+        Err(NotAsked::ShortArea) => println!(rt; "the work area is too short."),
     }
 }
 
 // What the old table reads: the entries behind the struct's own.
 fn say_reading(rt: &impl Print, old: &[u8], message: &[u8]) -> io::Result<()> {
     let mut store = [0u64; 4 * entry::WORDS];
-    match reader::read(old, message, &mut store) {
-        ReadAnswer::Done { place: _, count: _ } => {
-            say_counted(rt, b"The old table would read store ", store[entry::WORDS])?;
-            say_counted(rt, b", product ", store[2 * entry::WORDS])?;
-            say_signed(rt, b", count ", store[3 * entry::WORDS])?;
-            say(rt, b", and no error.\n")
-        }
-        ReadAnswer::Refused {
-            why: _,
-            place: _,
-            count: _,
-        } => say(rt, b"The old table would refuse it.\n"),
+    if reader::read(old, message, &mut store).is_err() {
+        return println!(rt; "The old table would refuse it.");
     }
+    let shop = store[entry::WORDS];
+    let product = store[2 * entry::WORDS];
+    let count = Signed(store[3 * entry::WORDS]);
+    println!(rt;
+        "The old table would read store {shop}, product {product}, count {count}, and no error."
+    )
 }
 
 fn main(rt: HostRuntime) -> io::Result<()> {
@@ -81,14 +55,13 @@ fn main(rt: HostRuntime) -> io::Result<()> {
         \x12\0\0\0\x04\0\
         \0\0\x01\0\x02\0\0\0\
         \x08\0\x20\0\x04\0\x03\0\x53\x50";
-    say(
-        &rt,
-        b"Counted: store 300, product 5, count -2. The new table adds a field, with 7 in it.\n\n",
+    println!(&rt;
+        "Counted: store 300, product 5, count -2. The new table adds a field, with 7 in it.\n"
     )?;
-    say(&rt, b"The new table puts the field in front: ")?;
+    print!(&rt; "The new table puts the field in front: ")?;
     say_question(&rt, old, front)?;
     say_reading(&rt, old, b"\x07\xac\x02\x05\x03")?;
-    say(&rt, b"\nThe new table puts the field at the end: ")?;
+    print!(&rt; "\nThe new table puts the field at the end: ")?;
     say_question(&rt, old, end)?;
     say_reading(&rt, old, b"\xac\x02\x05\x03\x07")
 }

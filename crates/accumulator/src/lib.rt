@@ -10,7 +10,6 @@ ghost use Rattle.wire.specs.Frames.{feed as feed_of};
 ghost use Rattle.accumulator.specs.Feeding.{written, marked, bridge_lent, feed_lent, without, Feeds, FeedsMarked, FeedsBy};
 ghost use Rattle.accumulator.specs.Parts.{Endable, Fresh};
 
-use decoder::{Decoded, Found};
 use wire::FeedAnswer;
 
 // The bytes that a frame may have, its closing zero among them.
@@ -91,7 +90,7 @@ fn feed_end(array: &[u8], idx: usize, chunk: &[u8], n: usize, message: &mut [u8]
     let front = &array[..idx];
     let back = &chunk[..n];
     let decoded = decoder::decode_parts(front, back, message);
-    let Decoded::Message(len) = decoded else {
+    let Ok(len) = decoded else {
         decoder::clear(message);
         return no_message(FeedAnswer::BadFrame, 0, used);
     };
@@ -112,7 +111,7 @@ fn feed_table(array: &mut [u8], idx: usize, chunk: &[u8], message: &mut [u8]) ->
         return no_message(FeedAnswer::BadState, idx, 0);
     }
     let found = decoder::first_zero(chunk);
-    let Found::At(n) = found else {
+    let Some(n) = found else {
         return feed_on(array, idx, chunk);
     };
     feed_end(array, idx, chunk, n, message)
@@ -125,7 +124,7 @@ fn feed_fresh(array: &mut [u8], idx: usize, chunk: &[u8], message: &mut [u8]) ->
     ensures { FeedsMarked (marked (feed_fresh array.old idx chunk.now)) chunk.now array.new message.new result }
 {
     let found = decoder::first_zero(chunk);
-    let Found::At(n) = found else {
+    let Some(n) = found else {
         let all = chunk.len();
         if ROOM - idx < all {
             let dropped = no_message(FeedAnswer::OverFull, 0, all);
@@ -153,7 +152,7 @@ fn feed_waiting(array: &mut [u8], chunk: &[u8], message: &mut [u8]) -> Marked
     ensures { FeedsMarked (marked (feed_waiting array.old chunk.now (to_zero chunk.now))) chunk.now array.new message.new result }
 {
     let found = decoder::first_zero(chunk);
-    let Found::At(n) = found else {
+    let Some(n) = found else {
         let all = chunk.len();
         let dropped = no_message(FeedAnswer::Consumed, 0, all);
         return Marked {

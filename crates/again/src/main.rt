@@ -4,9 +4,8 @@
 
 use recorded::field::part;
 use recorded::memory::same_words;
-use say::{front, say, say_bytes, say_why, say_with};
+use say::{Count, Hex, Why, front};
 use std::io;
-use wire::{ReadAnswer, WriteAnswer};
 
 // So many messages are in the list.
 const MESSAGES: usize = 9;
@@ -27,16 +26,14 @@ fn write_again(
     read: usize,
 ) -> io::Result<()> {
     let mut out = [0xeeu8; ROOM];
-    match writer::write(table, words, message, &mut out) {
-        WriteAnswer::Refused { why: _, place: _ } => say(rt, b"not written again"),
-        WriteAnswer::Done { place } => {
-            say_with(rt, b"written again to #: ", place as u64)?;
-            if front(&out, place) == front(message, read) {
-                return say(rt, b"the same");
-            }
-            say(rt, b"not the same")
-        }
-    }
+    let Ok(place) = writer::write(table, words, message, &mut out) else {
+        return print!(rt; "not written again");
+    };
+    let same = front(&out, place) == front(message, read);
+    print!(rt;
+        "written again to {place}: {}",
+        if same { "the same" } else { "not the same" }
+    )
 }
 
 // ---- read strictly
@@ -44,12 +41,9 @@ fn write_again(
 // Where an entry's own bytes end: where the next one's begin, or else where the reading ended.
 #[tactic(auto, unfolding(wire::specs::Answers::room_of))]
 fn own_end(words: &[u64], at: usize, end: usize) -> usize {
-    let count = entry::room(words.len());
-    if at < count {
-        let next = at + 1;
-        if next < count {
-            return entry::place(words, next) as usize;
-        }
+    let next = at.saturating_add(1);
+    if next < entry::room(words.len()) {
+        return entry::place(words, next) as usize;
     }
     end
 }
@@ -64,22 +58,18 @@ fn read_strictly(
 ) -> io::Result<()> {
     let mut store = [7u64; STORE];
     match reader::read_strict(table, message, &mut store) {
-        ReadAnswer::Done { place: _, count } => {
-            if same_words(words, entry::front(&store, count)) {
-                return say(rt, b"read strictly too, to the same entries\n");
-            }
-            say(rt, b"read strictly to other entries\n")
-        }
-        ReadAnswer::Refused { why, place, count } => {
-            say_why(
-                rt,
-                why,
-                b", at byte #, where the item's own bytes are",
-                place,
-            )?;
-            let end = own_end(words, count, read);
-            say_bytes(rt, tail::from(front(message, end), place))?;
-            say(rt, b"\n")
+        Ok(reached) if same_words(words, entry::front(&store, reached.count)) => println!(rt;
+            "read strictly too, to the same entries"
+        ),
+        Ok(_) => println!(rt; "read strictly to other entries"),
+        Err(stopped) => {
+            let place = stopped.place;
+            let end = own_end(words, stopped.count, read);
+            let own = Hex(tail::from(front(message, end), place));
+            println!(rt;
+                "{}, at byte {place}, where the item's own bytes are{own}",
+                Why(stopped.why)
+            )
         }
     }
 }
@@ -88,26 +78,21 @@ fn read_strictly(
 
 fn read_and_write(rt: &impl Print, table: &[u8], message: &[u8]) -> io::Result<()> {
     let mut store = [7u64; STORE];
-    match reader::read(table, message, &mut store) {
-        ReadAnswer::Refused {
-            why: _,
-            place: _,
-            count: _,
-        } => say(rt, b"not read\n"),
-        ReadAnswer::Done { place, count } => {
-            let words = entry::front(&store, count);
-            say_with(rt, b"# byte$ read, ", place as u64)?;
-            write_again(rt, table, words, message, place)?;
-            say(rt, b"; ")?;
-            read_strictly(rt, table, words, message, place)
-        }
-    }
+    let Ok(reached) = reader::read(table, message, &mut store) else {
+        return println!(rt; "not read");
+    };
+    let place = reached.place;
+    let words = entry::front(&store, reached.count);
+    print!(rt; "{} read, ", Count(place as u64, "byte"))?;
+    write_again(rt, table, words, message, place)?;
+    print!(rt; "; ")?;
+    read_strictly(rt, table, words, message, place)
 }
 
 // A record is a name, a table and a message.
 fn take_record(rt: &impl Print, record: &[u8]) -> io::Result<()> {
-    say(rt, part(record, 0))?;
-    say(rt, b": ")?;
+    rt.write_all(part(record, 0))?;
+    print!(rt; ": ")?;
     read_and_write(rt, part(record, 1), part(record, 2))
 }
 

@@ -9,8 +9,8 @@ use native.Mathlib.Omega.{arith}
 use lib.ListN.{length}
 use borrow.Author.Tests.{ltb-false}
 use Rattle.wire.specs.declared.Refusal.TheVariants.{Room}
-use Rattle.wire.specs.declared.Item.{Item}
-use Rattle.wire.specs.declared.Item.TheVariants.{Took, Refused as NotTaken}
+use Rattle.wire.specs.Item.{Item}
+use Rattle.wire.specs.Item.{Took, Refused as NotTaken}
 use Rattle.wire.specs.Tests.{pick, given, decided}
 use Rattle.wire.specs.Shape.{Kind, plain, pooled, option, sequence, map, struct, enum, same_kind, Shape, node, Shapes, count}
 use Rattle.wire.specs.Shape as shapes
@@ -22,8 +22,8 @@ use Rattle.laws.specs.Told.{Kept, keeps, cuts}
 use Rattle.laws.proofs.Splits.{not-both}
 use Rattle.laws.proofs.Runs.{then-then, item-then, then-nothing, fit_then, fit-item, fit_none}
 use Rattle.laws.proofs.Told.{read_told}
-use Rattle.desk.specs.declared.FindAnswer.{FindAnswer}
-use Rattle.desk.specs.declared.FindAnswer.TheVariants.{Absent, Refused}
+use Rattle.desk.specs.FindAnswer.{FindAnswer}
+use Rattle.desk.specs.FindAnswer.{Absent, Refused}
 use Rattle.desk.specs.Path.{is_passed, leads, leads_at, is_there, Located, absent, locate_on, locate_item, locate, locate_at, find_answer, find_in}
 use Rattle.along.specs.Seek.{seek_on, seek_item, seek, seek_at}
 use Rattle.along.specs.Laws.{SeeksFound}

@@ -11,7 +11,7 @@ use Rattle.wire.specs.Values.{Entry, Tag, Told, kept, lacks, short, tell}
 use Rattle.wire.specs.Reading.{Outcome, reached, refused}
 use Rattle.laws.specs.Told.{entries, over}
 use Rattle.laws.proofs.Told.{tells_all}
-use Rattle.desk.specs.declared.FindAnswer.TheVariants.{NoItem}
+use Rattle.desk.specs.FindAnswer.{NoItem}
 use Rattle.desk.specs.Path.{is_there, Located, at, absent, unmade, locate_on, locate_item, locate, locate_at, find_answer, find_in}
 use Rattle.along.specs.Laws.{Among, FromRead, made, same, FoundMade}
 use Rattle.along.specs.Laws as laws

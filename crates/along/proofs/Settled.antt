@@ -11,8 +11,8 @@ use lib.ListN.{length, drop, length-drop}
 use lib.Seq.{drop-append-le, drop-drop}
 use Rattle.wire.specs.declared.Refusal.{Refusal}
 use Rattle.wire.specs.declared.Own.{Own}
-use Rattle.wire.specs.declared.Item.{Item}
-use Rattle.wire.specs.declared.Item.TheVariants.{Took, Refused as NotTaken}
+use Rattle.wire.specs.Item.{Item}
+use Rattle.wire.specs.Item.{Took, Refused as NotTaken}
 use Rattle.wire.specs.Tests.{pick, given}
 use Rattle.wire.specs.Shape.{Kind, plain, pooled, option, sequence, map, struct, enum, Shape, node, Shapes, count}
 use Rattle.wire.specs.Shape as shapes
@@ -22,8 +22,8 @@ use Rattle.laws.specs.Longer.{spot, Moved}
 use Rattle.laws.proofs.Splits.{not-both}
 use Rattle.laws.proofs.Longer.{front-item}
 use Rattle.laws.proofs.Early.{past-front, fit-early}
-use Rattle.desk.specs.declared.FindAnswer.{FindAnswer}
-use Rattle.desk.specs.declared.FindAnswer.TheVariants.{Found, NoItem, Absent, Refused}
+use Rattle.desk.specs.FindAnswer.{FindAnswer}
+use Rattle.desk.specs.FindAnswer.{Found, NoItem, Absent, Refused}
 use Rattle.desk.specs.Path.{is_field, is_passed, leads, leads_at, is_there, find_in}
 use Rattle.along.specs.Seek.{seek_on, seek_item, seek, seek_at}
 use Rattle.along.specs.Laws.{Decides, item, gone, Settled, settled, LaterBytes, SomeItem}

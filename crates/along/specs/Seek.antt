@@ -3,14 +3,14 @@
 -- Assumes nothing.
 use Rattle.std.specs.Prelude.{List, [], ◌∷◌, ℕ, zero, suc, ◌-◌, length}
 use Rattle.wire.specs.declared.Refusal.TheVariants.{Room}
-use Rattle.wire.specs.declared.Item.{Item}
-use Rattle.wire.specs.declared.Item.TheVariants.{Took, Refused as NotTaken}
+use Rattle.wire.specs.Item.{Item}
+use Rattle.wire.specs.Item.{Took, Refused as NotTaken}
 use Rattle.wire.specs.Tests.{given}
 use Rattle.wire.specs.Shape.{Kind, Shape, node, Shapes, none, more, count}
 use Rattle.wire.specs.Values.{Entry}
 use Rattle.wire.specs.Reading.{head, Spot, Outcome, reached, refused, past, read, fit}
-use Rattle.desk.specs.declared.FindAnswer.{FindAnswer}
-use Rattle.desk.specs.declared.FindAnswer.TheVariants.{Found, NoItem, Absent, Refused}
+use Rattle.desk.specs.FindAnswer.{FindAnswer}
+use Rattle.desk.specs.FindAnswer.{Found, NoItem, Absent, Refused}
 use Rattle.desk.specs.Path.{is_there}
 
 -- behind items that were read with so much room

@@ -2,8 +2,8 @@
 -- Assumes nothing.
 use Rattle.std.specs.Prelude.{◌≡◌, Bool, List, ℕ, ◌≤◌, ◌<◌, leb, eqb, length}
 use Rattle.wire.specs.declared.Layout.{Layout}
-use Rattle.wire.specs.declared.Checked.TheVariants.{Good}
-use Rattle.wire.specs.declared.AskAnswer.{AskAnswer}
+use Rattle.wire.specs.Checked.{Good}
+use Rattle.wire.specs.AskAnswer.{AskAnswer}
 use Rattle.wire.specs.Tests.{pick, both}
 use Rattle.wire.specs.Table.{node_at, record_of, check}
 use Rattle.wire.specs.Append.{firsts}

@@ -1,7 +1,7 @@
 -- That the contract of the append question leaves no choice.
 -- Assumes nothing.
 use Rattle.std.specs.Prelude.{List, ℕ}
-use Rattle.wire.specs.declared.AskAnswer.{AskAnswer}
+use Rattle.wire.specs.AskAnswer.{AskAnswer}
 use Rattle.laws.specs.Answered.{Asks}
 use Rattle.laws.specs.Unique.{Unique}
 

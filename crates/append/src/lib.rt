@@ -9,7 +9,7 @@ ghost use Rattle.laws.specs.Answered.{Asks};
 ghost use Rattle.laws.specs.Tables.{node_shape, GoodTable, Limits};
 ghost use Rattle.append.specs.Compare.{suits, alike, after, Begun, Asked, Told};
 
-use wire::{AskAnswer, Checked, Layout, Side};
+use wire::{Layout, NotAsked, RefusedAt, Side};
 
 // The work area's bytes: one bit a pair of 4,096 nodes.
 pub const AREA: usize = 2097152;
@@ -29,10 +29,7 @@ fn is_open_root(number: u8) -> bool
     requires { is_kind number ≡ true }
     ensures { result ≡ is_open_root (kind_of number) }
 {
-    match number {
-        18 => true,
-        _ => number == 19,
-    }
+    number == 18 || number == 19
 }
 
 // Whether so many old children go with so many new ones.
@@ -129,40 +126,38 @@ pub fn roots_append(old: &[u8], l: Layout, new: &[u8], m: Layout, area: &mut [u8
 }
 
 // The answer where the old table is good.
-fn after_old(old: &[u8], l: Layout, new: &[u8], area: &mut [u8]) -> AskAnswer
+fn after_old(old: &[u8], l: Layout, new: &[u8], area: &mut [u8]) -> Result<bool, NotAsked>
     requires good_table { GoodTable old.now l × Limits l }
     requires area_bytes_in_bounds { area_bytes ≤ length area.old }
     ensures { result ≡ after old.now l new.now }
 {
     match table::check(new) {
-        Checked::Bad { why, place } => AskAnswer::Refused {
+        Err(RefusedAt { why, place }) => Err(NotAsked::Table {
             side: Side::New,
             why,
             place,
-        },
-        Checked::Good { layout } => AskAnswer::Says {
-            yes: roots_append(old, l, new, layout, area),
-        },
+        }),
+        Ok(layout) => Ok(roots_append(old, l, new, layout, area)),
     }
 }
 
 // The answer where the work area is long enough.
-fn ask(old: &[u8], new: &[u8], area: &mut [u8]) -> AskAnswer
+fn ask(old: &[u8], new: &[u8], area: &mut [u8]) -> Result<bool, NotAsked>
     requires { area_bytes ≤ length area.old }
     ensures { result ≡ ask_by (check_of old.now) (check_of new.now) old.now new.now }
 {
     match table::check(old) {
-        Checked::Bad { why, place } => AskAnswer::Refused {
+        Err(RefusedAt { why, place }) => Err(NotAsked::Table {
             side: Side::Old,
             why,
             place,
-        },
-        Checked::Good { layout } => after_old(old, layout, new, area),
+        }),
+        Ok(layout) => after_old(old, layout, new, area),
     }
 }
 
 // The same in the area's first bytes, so many as it must have, which are cleared after it.
-fn ask_and_clear(old: &[u8], new: &[u8], area: &mut [u8], size: usize) -> AskAnswer
+fn ask_and_clear(old: &[u8], new: &[u8], area: &mut [u8], size: usize) -> Result<bool, NotAsked>
     requires { (area_bytes ≡ size) × (size ≤ length area.old) }
     ensures { Asks old.now new.now area.old result area.new }
 {
@@ -173,11 +168,11 @@ fn ask_and_clear(old: &[u8], new: &[u8], area: &mut [u8], size: usize) -> AskAns
 
 // Whether the new table only appends to the old one; or which of them is not good, the old one first, why and at which node.
 // The work area comes back all zero; one that is too short is refused before all else, and unchanged.
-pub fn appends(old: &[u8], new: &[u8], area: &mut [u8]) -> AskAnswer
+pub fn appends(old: &[u8], new: &[u8], area: &mut [u8]) -> Result<bool, NotAsked>
     ensures { Asks old.now new.now area.old result area.new }
 {
     if AREA <= area.len() {
         return ask_and_clear(old, new, area, AREA);
     }
-    AskAnswer::ShortArea
+    Err(NotAsked::ShortArea)
 }

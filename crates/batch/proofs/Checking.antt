@@ -7,17 +7,17 @@ use Prim.Native.Nat.{ℕ}
 use lib.ListN.{take}
 use Rattle.wire.specs.declared.Refusal.{Refusal}
 use Rattle.wire.specs.declared.Layout.{Layout}
-use Rattle.wire.specs.declared.Checked.{Checked}
-use Rattle.wire.specs.declared.Checked.TheVariants.{Good as GoodTable, Bad as BadTable}
+use Rattle.wire.specs.Checked.{Checked}
+use Rattle.wire.specs.Checked.{Good as GoodTable, Bad as BadTable}
 use Rattle.wire.specs.Table.{shape_of, check}
 use Rattle.desk.specs.declared.Fault.{Fault}
 use Rattle.desk.specs.declared.Fault.TheVariants.{Wire, Batch as BadBatch}
-use Rattle.desk.specs.declared.BatchChecked.TheVariants.{Good, Bad}
+use Rattle.desk.specs.BatchChecked.{Good, Bad}
 use Rattle.desk.specs.Batch.{after, shape_by, tabled, Parts, opened, messages_of, checks, checked_answer, batch_check}
 use Rattle.messages.specs.declared.Fields.{Fields}
 use Rattle.starts.specs.Window.{parts_in, Judges, good, bad}
-use Rattle.batch.specs.declared.Opened.{Opened}
-use Rattle.batch.specs.declared.Opened.TheVariants.{Refused}
+use Rattle.batch.specs.Taking.{Opened}
+use Rattle.batch.specs.Taking.{Refused}
 use Rattle.batch.specs.Opened.{row_bytes_of, parts_of, Parted, Opens, refuses}
 
 module _ (table batch : List ℕ) where

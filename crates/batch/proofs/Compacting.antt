@@ -12,14 +12,14 @@ use borrow.Author.Tests.{leb-true}
 use Rattle.wire.specs.declared.Refusal.{Refusal}
 use Rattle.wire.specs.declared.Refusal.TheVariants.{Full}
 use Rattle.wire.specs.declared.Layout.{Layout}
-use Rattle.wire.specs.declared.Checked.{Checked}
-use Rattle.wire.specs.declared.Checked.TheVariants.{Good as GoodTable, Bad as BadTable}
+use Rattle.wire.specs.Checked.{Checked}
+use Rattle.wire.specs.Checked.{Good as GoodTable, Bad as BadTable}
 use Rattle.wire.specs.Tests.{pick}
 use Rattle.wire.specs.Table.{shape_of, check}
 use Rattle.desk.specs.declared.Fault.{Fault}
 use Rattle.desk.specs.declared.Fault.TheVariants.{Wire, Batch as BadBatch}
-use Rattle.desk.specs.declared.BatchWritten.{BatchWritten}
-use Rattle.desk.specs.declared.BatchWritten.TheVariants.{Done, Refused}
+use Rattle.desk.specs.BatchWritten.{BatchWritten}
+use Rattle.desk.specs.BatchWritten.{Done, Refused}
 use Rattle.desk.specs.Messages.{Message, joined, rows_of}
 use Rattle.desk.specs.Batch.{Or, so, fault, after, shape_by, tabled, in_room, batch_of, Parts, opened, messages_of, written_answer, out_with}
 use Rattle.desk.specs.Compact.{keep_last, compacts}
@@ -34,8 +34,8 @@ use Rattle.messages.specs.Fields.{keys_of, KeyedBy}
 use Rattle.keeping.specs.declared.Surveyed.{Surveyed}
 use Rattle.starts.specs.Window.{parts_in, Judges, good, bad}
 use Rattle.keeping.specs.Kept.{Good, survey_of, Keeps, batch_kept}
-use Rattle.batch.specs.declared.Opened.{Opened}
-use Rattle.batch.specs.declared.Opened.TheVariants.{Refused as NotOpened}
+use Rattle.batch.specs.Taking.{Opened}
+use Rattle.batch.specs.Taking.{Refused as NotOpened}
 use Rattle.batch.specs.Opened.{row_bytes_of, Parted, Opens, refuses}
 use Rattle.batch.specs.Writing.{Writes}
 use Rattle.batch.specs.Compacting.{compacted_by}

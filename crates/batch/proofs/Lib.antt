@@ -1,6 +1,6 @@
 -- The laws that the batch calls stand on.
 pub mod Opening
-pub mod Parts
+pub mod Handing
 pub mod Checking
 pub mod Writing
 pub mod Compacting

@@ -11,8 +11,8 @@ use lib.Seq.{drop-cons, take-nil, take-take, length-take-le}
 use borrow.Author.Tests.{lt-leb, le-leb, lt-ltb, le-ltb, eq-eqb, ne_eqb}
 use Rattle.wire.specs.declared.Refusal.{Refusal}
 use Rattle.wire.specs.declared.Layout.{Layout}
-use Rattle.wire.specs.declared.Checked.{Checked}
-use Rattle.wire.specs.declared.Checked.TheVariants.{Good as GoodTable, Bad}
+use Rattle.wire.specs.Checked.{Checked}
+use Rattle.wire.specs.Checked.{Good as GoodTable, Bad}
 use Rattle.wire.specs.Tests.{pick, given, both}
 use Rattle.wire.specs.Numbers.{little}
 use Rattle.wire.specs.Table.{u16_at, shape_of, check}
@@ -21,8 +21,8 @@ use Rattle.desk.specs.declared.Key.{Key}
 use Rattle.desk.specs.declared.Row.{Row}
 use Rattle.desk.specs.declared.Fault.{Fault}
 use Rattle.desk.specs.declared.Fault.TheVariants.{Wire, Fields as BadFields, Batch as BadBatch, Missing}
-use Rattle.desk.specs.declared.BatchFound.{BatchFound}
-use Rattle.desk.specs.declared.BatchFound.TheVariants.{Part, Refused as NotFound}
+use Rattle.desk.specs.BatchFound.{BatchFound}
+use Rattle.desk.specs.BatchFound.{Part, Refused as NotFound}
 use Rattle.desk.specs.Rows.{same_key, some_if, number_at, row_at, rows_at}
 use Rattle.desk.specs.Messages.{Keyed, is_keyed, Cut, next, stops, next_of}
 use Rattle.desk.specs.Batch.{so, fault, after, shape_by, tabled, keyed, Parts, good_trailer, parts_at, open_at, opened, part_by, found_in, found_answer}
@@ -32,15 +32,22 @@ use Rattle.batches.proofs.Opened.{number_lt}
 use Rattle.row.specs.Ranks.{row_count, rows_in, Loaded}
 use Rattle.row.proofs.Bytes.{rows_get, length-rows_in}
 use Rattle.messages.specs.declared.Fields.{Fields}
-use Rattle.messages.specs.declared.Found.{Found}
-use Rattle.messages.specs.declared.Found.TheVariants.{At, Unfit}
-use Rattle.messages.specs.declared.NextMessage.{NextMessage}
-use Rattle.messages.specs.declared.NextMessage.TheVariants.{Message, Stops}
+use Rattle.messages.specs.Found.{Found}
+use Rattle.messages.specs.Found.{At, Unfit}
+use Rattle.messages.specs.declared.Message as message
+use Rattle.messages.specs.NextMessage.{NextMessage}
+use Rattle.messages.specs.NextMessage.{Message, Stops}
 use Rattle.messages.specs.Fields.{keys_of, KeyedBy, Finds as FindsFields, found, unfit}
 use Rattle.messages.specs.Steps.{next_answer}
-use Rattle.batch.specs.declared.Opened.{Opened}
-use Rattle.batch.specs.declared.Opened.TheVariants.{Parts as Apart, Refused}
+use Rattle.batch.specs.Taking.{Opened}
+use Rattle.batch.specs.Taking.{Parts as Apart, Refused}
 use Rattle.batch.specs.Opened.{row_bytes_of, parts_of, Parted, Opens, parts, refuses, Finds}
+
+-- messages that are told alike are as long
+same-length : {key key' : Key} {len len' : ℕ} → Message key len ≡ Message key' len' → len ≡ len'
+same-length {key} {key'} {len} {len'} z =
+    let same : ◌≡◌ {A = message.Message} (record { key = key; len = len }) (record { key = key'; len = len' }) = cc in
+    ap (λ (r : message.Message). r.len) same
 
 -- ---- numbers of the trailer
 
@@ -199,7 +206,7 @@ module _ {table : List ℕ} {lay : Layout} {batch : List ℕ} {f : Fields} {star
         found-message {key} {len} a = by_next (go (next_of (keys_of table lay f) (drop last.offset (take start batch))) (sym a ∙ its-next))
           where
             go : (c : Cut) → Message key len ≡ next_answer c → Part last.offset len ≡ found_answer (part_by last.offset c)
-            go (next m rest) z = unfold next_answer in (unfold part_by found_answer in ap (Part last.offset) (cc))
+            go (next m rest) z = unfold next_answer in (unfold part_by found_answer in ap (Part last.offset) (same-length z))
             go (stops w x) z = unfold next_answer in (let z : ◌≡◌ {A = ℕ} 0 1 = cc in absurd (omega arith))
 
         pub found-unread : {why : Refusal} {at : ℕ} → r ≡ Stops why at → Finds table lay batch f start end k (NotFound BadBatch)

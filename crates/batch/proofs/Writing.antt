@@ -11,15 +11,15 @@ use borrow.Author.Tests.{ltb-true, le-leb, lt-leb}
 use Rattle.wire.specs.declared.Refusal.{Refusal}
 use Rattle.wire.specs.declared.Refusal.TheVariants.{Full}
 use Rattle.wire.specs.declared.Layout.{Layout}
-use Rattle.wire.specs.declared.Checked.{Checked}
-use Rattle.wire.specs.declared.Checked.TheVariants.{Good as GoodTable, Bad as BadTable}
+use Rattle.wire.specs.Checked.{Checked}
+use Rattle.wire.specs.Checked.{Good as GoodTable, Bad as BadTable}
 use Rattle.wire.specs.Tests.{pick, both}
 use Rattle.wire.specs.Table.{shape_of, check}
 use Rattle.laws.proofs.Splits.{both_left, both_right}
 use Rattle.desk.specs.declared.Fault.{Fault}
 use Rattle.desk.specs.declared.Fault.TheVariants.{Wire, Fields as BadFields, Batch as BadBatch}
-use Rattle.desk.specs.declared.BatchWritten.{BatchWritten}
-use Rattle.desk.specs.declared.BatchWritten.TheVariants.{Done, Refused}
+use Rattle.desk.specs.BatchWritten.{BatchWritten}
+use Rattle.desk.specs.BatchWritten.{Done, Refused}
 use Rattle.desk.specs.Messages.{Keyed, Message, Split, whole, split, rows_of}
 use Rattle.desk.specs.Batch.{Or, so, fault, after, shape_by, tabled, keyed, in_room, trailer, batch_of, split_by, offsets_fit, sized, writes, written_answer, out_with}
 use Rattle.batches.specs.Reads.{Reads}
@@ -27,11 +27,11 @@ use Rattle.batches.proofs.Ends.{split-reads, reads-joined}
 use Rattle.batches.proofs.Keys.{rows_fit}
 use Rattle.batches.proofs.Compacting.{length-batch}
 use Rattle.messages.specs.declared.Fields.{Fields}
-use Rattle.messages.specs.declared.Found.{Found}
-use Rattle.messages.specs.declared.Found.TheVariants.{At, Unfit}
+use Rattle.messages.specs.Found.{Found}
+use Rattle.messages.specs.Found.{At, Unfit}
 use Rattle.messages.specs.Fields.{keys_of, Finds, found, unfit}
-use Rattle.laying.specs.declared.Counted.{Counted}
-use Rattle.laying.specs.declared.Counted.TheVariants.{All, Stopped}
+use Rattle.laying.specs.Counted.{Counted}
+use Rattle.laying.specs.Counted.{All, Stopped}
 use Rattle.laying.specs.Counts.{Counts, counts, breaks, rows_for, ending, Laid, batch_for}
 use Rattle.laying.proofs.Laying.{sorted-rows}
 use Rattle.batch.specs.Writing.{Writes, Fitting, made_by}

@@ -3,3 +3,4 @@ pub mod Opened
 pub mod Writing
 pub mod Compacting
 pub mod Promise
+pub mod Taking

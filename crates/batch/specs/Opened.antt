@@ -5,14 +5,14 @@ use Rattle.wire.specs.declared.Layout.{Layout}
 use Rattle.wire.specs.Table.{shape_of}
 use Rattle.desk.specs.declared.Fault.{Fault}
 use Rattle.desk.specs.declared.Key.{Key}
-use Rattle.desk.specs.declared.BatchFound.{BatchFound}
+use Rattle.desk.specs.BatchFound.{BatchFound}
 use Rattle.desk.specs.Batch.{so, fault, Parts, opened, found_in, found_answer}
 use Rattle.batches.specs.Search.{Turns, row_before}
 use Rattle.row.specs.Ranks.{rows_in}
 use Rattle.messages.specs.declared.Fields.{Fields}
 use Rattle.messages.specs.Fields.{keys_of, KeyedBy}
-use Rattle.batch.specs.declared.Opened.{Opened}
-use Rattle.batch.specs.declared.Opened.TheVariants.{Parts as Apart, Refused}
+use Rattle.batch.specs.Taking.{Opened}
+use Rattle.batch.specs.Taking.{Parts as Apart, Refused}
 
 -- the bytes of the rows that start and end there
 abbrev pub row_bytes_of : (batch : List ℕ) (start end : ℕ) → List ℕ

@@ -3,9 +3,9 @@
 -- Assumes nothing.
 use Rattle.std.specs.Prelude.{◌≡◌, List, ℕ, length}
 use Rattle.laws.specs.Unique.{Unique}
-use Rattle.desk.specs.declared.BatchChecked.{BatchChecked}
-use Rattle.desk.specs.declared.BatchFound.{BatchFound}
-use Rattle.desk.specs.declared.BatchWritten.{BatchWritten}
+use Rattle.desk.specs.BatchChecked.{BatchChecked}
+use Rattle.desk.specs.BatchFound.{BatchFound}
+use Rattle.desk.specs.BatchWritten.{BatchWritten}
 use Rattle.desk.specs.Batch.{Or, batch_check, part_of}
 use Rattle.desk.specs.Compact.{compacts}
 use Rattle.batch.specs.Writing.{Writes}

@@ -3,7 +3,7 @@
 use Rattle.std.specs.Prelude.{◌≡◌, List, ℕ}
 use Rattle.wire.specs.declared.Layout.{Layout}
 use Rattle.wire.specs.Table.{shape_of}
-use Rattle.desk.specs.declared.BatchWritten.{BatchWritten}
+use Rattle.desk.specs.BatchWritten.{BatchWritten}
 use Rattle.desk.specs.Messages.{split}
 use Rattle.desk.specs.Batch.{Or, after, split_by, sized, in_room, batch_of, written_answer, out_with}
 use Rattle.messages.specs.declared.Fields.{Fields}

@@ -2,9 +2,9 @@
 #![tactic(auto)]
 
 ghost use Rattle.std.specs.Prelude.{◌≡◌, ◌<◌, length};
-ghost use Rattle.wire.specs.declared.Checked.TheVariants.{Good as GoodTable};
+ghost use Rattle.wire.specs.Checked.{Good as GoodTable};
 ghost use Rattle.wire.specs.Table.{check as check_of};
-ghost use Rattle.desk.specs.declared.BatchFound.TheVariants.{Part};
+ghost use Rattle.desk.specs.BatchFound.{Part as PartFound};
 ghost use Rattle.desk.specs.Batch.{batch_check, part_of, writes};
 ghost use Rattle.desk.specs.Compact.{compacts};
 ghost use Rattle.batches.specs.Search.{Searched};
@@ -14,116 +14,88 @@ ghost use Rattle.batch.specs.Compacting.{compacted_by};
 ghost use Rattle.batch.specs.Writing.{Fitting, made_by, Writes};
 ghost use Rattle.batch.specs.Opened.{Opens, Parted, Finds};
 
-use desk::{BatchChecked, BatchFound, BatchWritten, Fault, Key};
-use laying::Counted;
-use messages::{Fields, Found, NextMessage};
-use wire::{Checked, Layout, Refusal};
+use desk::{Fault, Key, Part};
+use messages::Fields;
+use wire::{Layout, Refusal};
+
+// A batch taken apart by its trailer: its key fields, and where its rows start and end.
+#[derive(Clone, Copy)]
+pub struct Parts {
+    pub fields: Fields,
+    pub start: usize,
+    pub end: usize,
+}
 
 // A trailer's bytes.
 const TRAILER: usize = 12;
 
-// A batch taken apart by its trailer: its key fields, and where its rows start and end; or why it is refused.
-#[derive(Clone, Copy)]
-pub enum Opened {
-    Parts {
-        fields: Fields,
-        start: usize,
-        end: usize,
-    },
-    Refused {
-        why: Fault,
-    },
-}
-
 // Takes a batch apart by its trailer, whose fields are judged before its numbers.
-fn take_apart(table: &[u8], l: Layout, batch: &[u8]) -> Opened
+fn take_apart(table: &[u8], l: Layout, batch: &[u8]) -> Result<Parts, Fault>
     requires { check_of table.now ≡ GoodTable l }
     ensures { Opens table.now l batch.now result }
 {
     let len = batch.len();
     if len < TRAILER {
-        return Opened::Refused { why: Fault::Batch };
+        return Err(Fault::Batch);
     }
     let end = len - TRAILER;
     let store = table::u16_at(batch, end + 8);
     let product = table::u16_at(batch, end + 10);
-    let found = messages::fields_of(table, l, store, product);
-    let Found::At { fields } = found else {
-        return Opened::Refused { why: Fault::Fields };
+    let Some(fields) = messages::fields_of(table, l, store, product) else {
+        return Err(Fault::Fields);
     };
     let count = row::half(batch, end);
     let distance = row::half(batch, end + 4);
     if distance != 16 * count {
-        return Opened::Refused { why: Fault::Batch };
+        return Err(Fault::Batch);
     }
     let back = distance as usize;
     if end < back {
-        return Opened::Refused { why: Fault::Batch };
+        return Err(Fault::Batch);
     }
     let start = end - back;
-    Opened::Parts { fields, start, end }
+    Ok(Parts { fields, start, end })
 }
 
 // The message of a key that the rows in front of a turn lead to.
-fn find(
-    table: &[u8],
-    l: Layout,
-    f: Fields,
-    batch: &[u8],
-    start: usize,
-    end: usize,
-    key: Key,
-) -> BatchFound
-    requires { Parted table.now l batch.now f start end }
-    ensures { Finds table.now l batch.now f start end key result }
+fn find(table: &[u8], l: Layout, parts: Parts, batch: &[u8], key: Key) -> Result<Part, Fault>
+    requires { Parted table.now l batch.now parts.fields parts.start parts.end }
+    ensures { Finds table.now l batch.now parts.fields parts.start parts.end key result }
 {
+    let Parts { fields, start, end } = parts;
     let turn = search::turn(&batch[start..end], key);
     if turn == 0 {
-        return BatchFound::Refused {
-            why: Fault::Missing,
-        };
+        return Err(Fault::Missing);
     }
     let last = row::load(&batch[start..end], turn - 1);
     if !messages::same_key(key, last.key) {
-        return BatchFound::Refused {
-            why: Fault::Missing,
-        };
+        return Err(Fault::Missing);
     }
     let at = last.offset as usize;
     if start <= at {
-        return BatchFound::Refused { why: Fault::Batch };
+        return Err(Fault::Batch);
     }
-    let next = messages::next(table, l, f, &batch[at..start]);
-    match next {
-        NextMessage::Stops { why: _, place: _ } => BatchFound::Refused { why: Fault::Batch },
-        NextMessage::Message { key: _, len } => BatchFound::Part { from: at, len },
+    match messages::next(table, l, fields, &batch[at..start]) {
+        Err(_) => Err(Fault::Batch),
+        Ok(message) => Ok(Part {
+            from: at,
+            len: message.len,
+        }),
     }
 }
 
 // The last message of a store and product, found from the rows.
-pub fn last(table: &[u8], batch: &[u8], key: Key) -> BatchFound
+pub fn last(table: &[u8], batch: &[u8], key: Key) -> Result<Part, Fault>
     ensures { Searched table.now batch.now key result }
 {
-    let checked = table::check(table);
-    match checked {
-        Checked::Bad { why, place } => BatchFound::Refused {
-            why: Fault::Wire { why, place },
-        },
-        Checked::Good { layout } => {
-            let opened = take_apart(table, layout, batch);
-            match opened {
-                Opened::Refused { why } => BatchFound::Refused { why },
-                Opened::Parts { fields, start, end } => {
-                    find(table, layout, fields, batch, start, end, key)
-                }
-            }
-        }
-    }
+    let layout = table::check(table)?;
+    let parts = take_apart(table, layout, batch)?;
+    find(table, layout, parts, batch, key)
 }
 
 // So many bytes of a batch from a place on, or none if they would reach beyond it.
 fn within<'a>(batch: &'a [u8], from: usize, len: usize) -> &'a [u8]
-    ensures { result.now ≡ part_of batch.now (Part from len) }
+    ensures { result.now ≡ part_of batch.now (PartFound from len) }
 {
     let size = batch.len();
     if size < from {
@@ -137,12 +109,12 @@ fn within<'a>(batch: &'a [u8], from: usize, len: usize) -> &'a [u8]
 }
 
 // The bytes of the message that was found, from the same batch and its answer.
-pub fn part<'a>(batch: &'a [u8], found: BatchFound) -> &'a [u8]
+pub fn part<'a>(batch: &'a [u8], found: Result<Part, Fault>) -> &'a [u8]
     ensures { result.now ≡ part_of batch.now found }
 {
     match found {
-        BatchFound::Part { from, len } => { within(batch, from, len) }
-        BatchFound::Refused { why: _ } => &batch[0..0],
+        Ok(place) => within(batch, place.from, place.len),
+        Err(_) => &batch[0..0],
     }
 }
 
@@ -170,27 +142,15 @@ fn judge(table: &[u8], l: Layout, f: Fields, front: &[u8], rows: &[u8]) -> bool
 }
 
 // Whether a batch is good: it reads fully up to its rows, and these are one for each message, sorted, its own key and offset in it.
-pub fn check(table: &[u8], batch: &[u8]) -> BatchChecked
+pub fn check(table: &[u8], batch: &[u8]) -> Result<(), Fault>
     ensures { result ≡ batch_check table.now batch.now }
 {
-    let checked = table::check(table);
-    match checked {
-        Checked::Bad { why, place } => BatchChecked::Bad {
-            why: Fault::Wire { why, place },
-        },
-        Checked::Good { layout } => {
-            let opened = take_apart(table, layout, batch);
-            match opened {
-                Opened::Refused { why } => BatchChecked::Bad { why },
-                Opened::Parts { fields, start, end } => {
-                    if judge(table, layout, fields, &batch[..start], &batch[start..end]) {
-                        return BatchChecked::Good;
-                    }
-                    BatchChecked::Bad { why: Fault::Batch }
-                }
-            }
-        }
+    let layout = table::check(table)?;
+    let Parts { fields, start, end } = take_apart(table, layout, batch)?;
+    if judge(table, layout, fields, &batch[..start], &batch[start..end]) {
+        return Ok(());
     }
+    Err(Fault::Batch)
 }
 
 // ---- writing
@@ -204,37 +164,31 @@ fn write_by(
     store: usize,
     product: usize,
     out: &mut [u8],
-) -> BatchWritten
+) -> Result<usize, Fault>
     requires { Fitting table.now l f store product }
     ensures { Writes (made_by table.now l f bytes.now (length out.old)) out.old result out.new }
 {
-    let counted = laying::count(table, l, f, bytes);
-    match counted {
-        Counted::Stopped { why, place } => BatchWritten::Refused {
-            why: Fault::Wire { why, place },
-        },
-        Counted::All { count, last } => {
-            if !laying::sizes_fit(count, last) {
-                return BatchWritten::Refused { why: Fault::Batch };
-            }
-            let behind = 16 * count + TRAILER;
-            let room = out.len();
-            let full = Fault::Wire {
-                why: Refusal::Full,
-                place: 0,
-            };
-            if room < behind {
-                return BatchWritten::Refused { why: full };
-            }
-            let front = bytes.len();
-            if room - behind < front {
-                return BatchWritten::Refused { why: full };
-            }
-            let total = front + behind;
-            laying::lay(table, l, f, bytes, count, store, product, &mut out[..total]);
-            BatchWritten::Done { place: total }
-        }
+    let tally = laying::count(table, l, f, bytes)?;
+    let count = tally.count;
+    if !laying::sizes_fit(count, tally.last) {
+        return Err(Fault::Batch);
     }
+    let behind = 16 * count + TRAILER;
+    let room = out.len();
+    let full = Fault::Wire {
+        why: Refusal::Full,
+        place: 0,
+    };
+    if room < behind {
+        return Err(full);
+    }
+    let front = bytes.len();
+    if room - behind < front {
+        return Err(full);
+    }
+    let end = front + behind;
+    laying::lay(table, l, f, bytes, count, store, product, &mut out[..end]);
+    Ok(end)
 }
 
 // Writes a batch of messages that stand end to end. Nothing is written unless all of it is.
@@ -244,22 +198,14 @@ pub fn write(
     store: usize,
     product: usize,
     out: &mut [u8],
-) -> BatchWritten
+) -> Result<usize, Fault>
     ensures { Writes (writes table.now bytes.now store product (length out.old)) out.old result out.new }
 {
-    let checked = table::check(table);
-    match checked {
-        Checked::Bad { why, place } => BatchWritten::Refused {
-            why: Fault::Wire { why, place },
-        },
-        Checked::Good { layout } => {
-            let found = messages::fields_of(table, layout, store, product);
-            let Found::At { fields } = found else {
-                return BatchWritten::Refused { why: Fault::Fields };
-            };
-            write_by(table, layout, fields, bytes, store, product, out)
-        }
-    }
+    let layout = table::check(table)?;
+    let Some(fields) = messages::fields_of(table, layout, store, product) else {
+        return Err(Fault::Fields);
+    };
+    write_by(table, layout, fields, bytes, store, product, out)
 }
 
 // ---- compaction
@@ -273,13 +219,13 @@ fn compact_by(
     rows: &[u8],
     area: &mut [u8],
     out: &mut [u8],
-) -> BatchWritten
+) -> Result<usize, Fault>
     requires keyed_by { KeyedBy table.now l f }
     requires area_nonzero { 0 < length area.old }
     ensures { Writes (compacted_by (parts_in table.now l f front.now rows.now) (length out.old)) out.old result out.new }
 {
     if !starts::judge(table, l, f, front, rows, area) {
-        return BatchWritten::Refused { why: Fault::Batch };
+        return Err(Fault::Batch);
     }
     let surveyed = keeping::survey(table, l, f, front, rows, area);
     let count = surveyed.count;
@@ -290,7 +236,7 @@ fn compact_by(
             why: Refusal::Full,
             place: 0,
         };
-        return BatchWritten::Refused { why: full };
+        return Err(full);
     }
     let total = len + 16 * count + TRAILER;
     keeping::lay(
@@ -304,7 +250,7 @@ fn compact_by(
         len,
         &mut out[..total],
     );
-    BatchWritten::Done { place: total }
+    Ok(total)
 }
 
 // Compacts a batch by its parts, with memory for a window of any batch.
@@ -315,7 +261,7 @@ fn compact_large(
     front: &[u8],
     rows: &[u8],
     out: &mut [u8],
-) -> BatchWritten
+) -> Result<usize, Fault>
     requires { KeyedBy table.now l f }
     ensures { Writes (compacted_by (parts_in table.now l f front.now rows.now) (length out.old)) out.old result out.new }
 {
@@ -331,7 +277,7 @@ fn compact_parts(
     front: &[u8],
     rows: &[u8],
     out: &mut [u8],
-) -> BatchWritten
+) -> Result<usize, Fault>
     requires { KeyedBy table.now l f }
     ensures { Writes (compacted_by (parts_in table.now l f front.now rows.now) (length out.old)) out.old result out.new }
 {
@@ -343,27 +289,12 @@ fn compact_parts(
 }
 
 // Writes a batch of only the last message of each store and product. Nothing is written unless all of it is.
-pub fn compact(table: &[u8], batch: &[u8], out: &mut [u8]) -> BatchWritten
+pub fn compact(table: &[u8], batch: &[u8], out: &mut [u8]) -> Result<usize, Fault>
     ensures { Writes (compacts table.now batch.now (length out.old)) out.old result out.new }
 {
-    let checked = table::check(table);
-    match checked {
-        Checked::Bad { why, place } => BatchWritten::Refused {
-            why: Fault::Wire { why, place },
-        },
-        Checked::Good { layout } => {
-            let opened = take_apart(table, layout, batch);
-            match opened {
-                Opened::Refused { why } => BatchWritten::Refused { why },
-                Opened::Parts { fields, start, end } => compact_parts(
-                    table,
-                    layout,
-                    fields,
-                    &batch[..start],
-                    &batch[start..end],
-                    out,
-                ),
-            }
-        }
-    }
+    let layout = table::check(table)?;
+    let Parts { fields, start, end } = take_apart(table, layout, batch)?;
+    let front = &batch[..start];
+    let rows = &batch[start..end];
+    compact_parts(table, layout, fields, front, rows, out)
 }

@@ -10,7 +10,7 @@ use lib.Seq.{take_at}
 use lib.Dec.{leb}
 use borrow.Author.Tests.{ltb-true, leb-true}
 use Rattle.desk.specs.declared.Fault.{Fault}
-use Rattle.desk.specs.declared.BatchChecked.TheVariants.{Good}
+use Rattle.desk.specs.BatchChecked.{Good}
 use Rattle.wire.specs.Tests.{pick}
 use Rattle.laws.proofs.Splits.{both_left, both_right}
 use Rattle.desk.specs.declared.Row.{Row}

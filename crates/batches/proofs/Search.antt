@@ -14,7 +14,7 @@ use Rattle.desk.specs.declared.Row.{Row}
 use Rattle.desk.specs.Rows.{same_key, not_after, or_else, some_if, last_row}
 use Rattle.batches.specs.Sorted.{is_sorted}
 use Rattle.desk.specs.declared.Fault.{Fault}
-use Rattle.desk.specs.declared.BatchFound.TheVariants.{Refused as NotFound}
+use Rattle.desk.specs.BatchFound.{Refused as NotFound}
 use Rattle.wire.specs.Shape.{Shape}
 use Rattle.desk.specs.Messages.{rows_of, Part}
 use Rattle.desk.specs.Batch.{Or, so, fault, after, tabled, Parts, opened, found_in, finds_last, found_answer, batch_last}

@@ -2,7 +2,7 @@
 -- Assumes nothing.
 use Rattle.std.specs.Prelude.{◌≡◌, List, ℕ, ◌≤◌, length}
 use Rattle.laws.specs.Range.{AreBytes}
-use Rattle.desk.specs.declared.BatchChecked.TheVariants.{Good}
+use Rattle.desk.specs.BatchChecked.{Good}
 use Rattle.desk.specs.declared.Key.{Key}
 use Rattle.desk.specs.Rows.{sort}
 use Rattle.desk.specs.Messages.{Keyed, Message, rows_of}

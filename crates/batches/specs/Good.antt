@@ -2,7 +2,7 @@
 -- Assumes nothing.
 use Rattle.std.specs.Prelude.{◌≡◌, List, ℕ}
 use Rattle.wire.specs.Shape.{Shape}
-use Rattle.desk.specs.declared.BatchChecked.TheVariants.{Good}
+use Rattle.desk.specs.BatchChecked.{Good}
 use Rattle.desk.specs.Rows.{sort}
 use Rattle.desk.specs.Messages.{Message, rows_of}
 use Rattle.batches.specs.Reads.{Reads}

@@ -3,8 +3,8 @@
 use Rattle.std.specs.Prelude.{◌≡◌, List, ℕ, ◌^◌, ◌≤◌, take, drop}
 use Rattle.std.proofs.Math.Option.{none}
 use Rattle.laws.specs.Range.{AreBytes}
-use Rattle.desk.specs.declared.BatchChecked.TheVariants.{Good}
-use Rattle.desk.specs.declared.BatchWritten.TheVariants.{Done as Written}
+use Rattle.desk.specs.BatchChecked.{Good}
+use Rattle.desk.specs.BatchWritten.{Done as Written}
 use Rattle.desk.specs.declared.Key.{Key}
 use Rattle.desk.specs.Rows.{last_row, rows_at}
 use Rattle.desk.specs.Messages.{Part}

@@ -7,9 +7,9 @@ use Rattle.desk.specs.declared.Row.{Row}
 use Rattle.desk.specs.Rows.{same_key, before_or, some_if, last_row}
 use Rattle.batches.specs.Sorted.{is_sorted}
 use Rattle.desk.specs.declared.Fault.{Fault}
-use Rattle.desk.specs.declared.BatchChecked.TheVariants.{Good}
-use Rattle.desk.specs.declared.BatchFound.{BatchFound}
-use Rattle.desk.specs.declared.BatchFound.TheVariants.{Refused as NotFound}
+use Rattle.desk.specs.BatchChecked.{Good}
+use Rattle.desk.specs.BatchFound.{BatchFound}
+use Rattle.desk.specs.BatchFound.{Refused as NotFound}
 use Rattle.wire.specs.Shape.{Shape}
 use Rattle.desk.specs.Batch.{so, fault, after, tabled, Parts, opened, found_in, found_answer, batch_check, batch_last}
 

@@ -7,7 +7,7 @@ use mathlib.Core.List.{List, [], ◌∷◌, ◌++◌, append_assoc, append-nil}
 use Prim.Native.Nat.{ℕ, ◌+◌}
 use lib.ListN.{length, length-append}
 use Rattle.wire.specs.declared.Own.{Own}
-use Rattle.wire.specs.declared.Item.TheVariants.{Took}
+use Rattle.wire.specs.Item.{Took}
 use Rattle.wire.specs.Tests.{given}
 use Rattle.wire.specs.Shape.{Kind, Shape}
 use Rattle.wire.specs.Walk.{Follow, following, Walk, walk}

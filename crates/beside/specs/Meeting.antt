@@ -5,8 +5,8 @@
 -- Assumes nothing.
 use Rattle.std.specs.Prelude.{Bool, List, [], ◌∷◌, ◌++◌, ℕ, ◌+◌, ◌-◌, take, drop, eqb}
 use Rattle.wire.specs.declared.Own.{Own}
-use Rattle.wire.specs.declared.Item.{Item}
-use Rattle.wire.specs.declared.Item.TheVariants.{Took, Refused}
+use Rattle.wire.specs.Item.{Item}
+use Rattle.wire.specs.Item.{Took, Refused}
 use Rattle.wire.specs.Tests.{pick, given}
 use Rattle.wire.specs.Shape.{Kind}
 use Rattle.wire.specs.Walk.{Walk}

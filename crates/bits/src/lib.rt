@@ -7,23 +7,16 @@ ghost use Rattle.bits.specs.Marks.{marked, marking};
 pub fn clear(area: &mut [u8])
     ensures { area.new ≡ replicate (length area.old) 0 }
 {
-    let mut i = 0;
-    while i < area.len() {
-        area[i] = 0;
-        i = i + 1;
-    }
+    area.fill(0);
 }
 
 // Whether a bit is set. Beyond the area none is.
 pub fn is_marked(area: &[u8], place: usize) -> bool
     ensures { result ≡ marked area.now place }
 {
-    let at = place / 8;
-    if area.len() <= at {
-        return false;
-    }
+    let byte = area.get(place / 8).copied().unwrap_or(0);
     let bit = (place % 8) as u8;
-    (area[at] >> bit) % 2 == 1
+    (byte >> bit) % 2 == 1
 }
 
 pub fn mark(area: &mut [u8], place: usize)

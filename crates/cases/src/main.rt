@@ -3,9 +3,8 @@
 #![tactic(auto)]
 
 use recorded::field::{number_at, part};
-use say::{say, say_bytes, say_entries, say_why, say_with};
+use say::{Entries, Hex, Why};
 use std::io;
-use wire::ReadAnswer;
 
 // So many messages are in the list.
 const MESSAGES: usize = 13;
@@ -15,40 +14,34 @@ const STORE: usize = 256 * entry::WORDS;
 
 // How many entries were made, and the first four.
 fn say_made(rt: &impl Print, store: &[u64], count: usize) -> io::Result<()> {
-    say_with(rt, b"; count #", count as u64)?;
-    if count <= 4 {
-        return say_entries(rt, store, count);
-    }
-    say_entries(rt, store, 4)?;
-    say(rt, b" ..")
+    let shown = Entries(entry::front(store, count.min(4)));
+    let more = if count <= 4 { "" } else { " .." };
+    print!(rt; "; count {count}{shown}{more}")
 }
 
 // Reads a message into a lent store, and says what came back.
 fn read_into(rt: &impl Print, table: &[u8], message: &[u8], store: &mut [u64]) -> io::Result<()> {
     let answer = reader::read(table, message, store);
     match answer {
-        ReadAnswer::Done { place, count } => {
-            say_with(rt, b": done at #", place as u64)?;
-            say_made(rt, store, count)?;
+        Ok(reached) => {
+            print!(rt; ": done at {}", reached.place)?;
+            say_made(rt, store, reached.count)?;
         }
-        ReadAnswer::Refused { why, place, count } => {
-            say(rt, b": refused ")?;
-            say_why(rt, why, b", at #", place)?;
-            say_made(rt, store, count)?;
+        Err(stopped) => {
+            print!(rt; ": refused {}, at {}", Why(stopped.why), stopped.place)?;
+            say_made(rt, store, stopped.count)?;
         }
     }
-    say(rt, b"; rest:")?;
-    say_bytes(rt, reader::rest(message, answer))?;
-    say(rt, b"\n")
+    println!(rt; "; rest:{}", Hex(reader::rest(message, answer)))
 }
 
 // A record is a name, a table, a message, and how many words the store has.
 fn read_record(rt: &impl Print, record: &[u8]) -> io::Result<()> {
     let mut store = [7u64; STORE];
     let size = number_at(record, 3) as usize;
-    if size <= store.len() {
-        say(rt, part(record, 0))?;
-        read_into(rt, part(record, 1), part(record, 2), &mut store[..size])?;
+    if let Some(lent) = store.get_mut(..size) {
+        rt.write_all(part(record, 0))?;
+        read_into(rt, part(record, 1), part(record, 2), lent)?;
     }
     Ok(())
 }

@@ -5,8 +5,8 @@ use Prim.Native.Nat.{ℕ, ◌+◌}
 use native.Mathlib.Omega.{arith}
 use lib.ListN.{replicate, length-replicate}
 use Rattle.wire.specs.declared.Refusal.TheVariants.{Record}
-use Rattle.wire.specs.declared.Checked.{Checked}
-use Rattle.wire.specs.declared.Checked.TheVariants.{Good, Bad}
+use Rattle.wire.specs.Checked.{Checked}
+use Rattle.wire.specs.Checked.{Good, Bad}
 use Rattle.wire.specs.Tests.{pick, given, both}
 use Rattle.wire.specs.Table.{u16_at, u32_at, second, size_of, mark_of, most_nodes, most_bytes, table_form, ending_at, layout_at, good_numbers, good_trailer, kinds, is_kind, kind_of, node_at, record_of, first_child, child_count, below, good_places, good_kind, good_node, short_chain, check_from, check_at, check_as, check}
 use Rattle.laws.specs.Chains.{longest_at, kept_chain}

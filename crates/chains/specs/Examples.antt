@@ -3,7 +3,7 @@
 use Rattle.std.specs.Prelude.{◌≡◌, List, [], ◌∷◌, ◌++◌, ℕ, zero, suc, ◌+◌, ◌*◌, ◌/◌, ◌%◌}
 use Rattle.wire.specs.declared.Refusal.TheVariants.{Record}
 use Rattle.wire.specs.declared.Layout.{Layout}
-use Rattle.wire.specs.declared.Checked.TheVariants.{Good, Bad}
+use Rattle.wire.specs.Checked.{Good, Bad}
 use Rattle.wire.specs.Table.{check}
 
 unfoldable pub two : ℕ → List ℕ

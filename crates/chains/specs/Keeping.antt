@@ -3,8 +3,8 @@
 use Rattle.std.specs.Prelude.{◌≡◌, List, ℕ, zero, suc, ◌+◌, ◌≤◌, length, set}
 use Rattle.wire.specs.declared.Refusal.TheVariants.{Record}
 use Rattle.wire.specs.declared.Layout.{Layout}
-use Rattle.wire.specs.declared.Checked.{Checked}
-use Rattle.wire.specs.declared.Checked.TheVariants.{Good, Bad}
+use Rattle.wire.specs.Checked.{Checked}
+use Rattle.wire.specs.Checked.{Good, Bad}
 use Rattle.wire.specs.Tests.{given}
 use Rattle.wire.specs.Table.{second, node_at, record_of, good_node, short_chain, check_from}
 use Rattle.laws.specs.Chains.{kept_chain}

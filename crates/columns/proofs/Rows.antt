@@ -1,5 +1,6 @@
 -- A root that is a struct of few fields which all have a style has columns, and no other root does.
 -- Assumes nothing.
+use Rattle.std.specs.Bool.{then_some}
 use mathlib.Core.Path.{◌≡◌, refl, sym, ap, ◌∙◌}
 use mathlib.Core.Bool.{Bool, true, false}
 use mathlib.Core.List.{List, [], ◌∷◌}
@@ -20,7 +21,7 @@ use Rattle.laws.proofs.Children.{count-children}
 use Rattle.table.specs.Parts.{Falls}
 use Rattle.table.proofs.Stretches.{node-falls}
 use Rattle.desk.specs.Csv.{Style, style_of, Column, and_column, kind_of_root, columns, columns_of, most_fields}
-use Rattle.columns.specs.declared.Found.TheVariants.{Fields, Unfit}
+use Rattle.columns.specs.Found.{Fields, Unfit}
 use Rattle.columns.specs.Columns.{is_some, all_styled, field_shapes, Finds, rows, no_rows}
 
 -- ---- columns
@@ -113,10 +114,13 @@ module _ {s : List ℕ} {l : Layout} (g : GoodTable s l) where
           rw (f, w) (record { inside = r.inside; below = λ c b. omega (arith, r.below c b, g.root_below) })
 
       module _ (few : width ≤ most_fields) {t : Bool} (is : t ≡ all_styled (field_shapes s l from width)) where
-        pub some-rows : t ≡ true → Finds s l (Fields from width)
+        some-rows : t ≡ true → Finds s l (Fields from width)
         some-rows e = rows (record { good = g; falls = root-falls; styled = sym is ∙ e }) few (root-struct from f)
 
-        pub no-rows : t ≡ false → Finds s l Unfit
+        no-rows : t ≡ false → Finds s l Unfit
         no-rows e =
             no_rows
             (ap columns_of (root-struct from f) ∙ struct-columns _ (rw (count-children (node_shape s l) s from width) few) ∙ uncolumned _ (sym is ∙ e))
+
+        pub found : Finds s l (then_some t (record { from = from; width = width }))
+        found = by-test t (λ e. rw e (some-rows e)) (λ e. rw e (no-rows e))

@@ -3,7 +3,7 @@
 use mathlib.Core.Path.{◌≡◌, refl, sym, ap, ◌∙◌}
 use mathlib.Core.Bool.{Bool, true, false}
 use mathlib.Core.List.{List}
-use Prim.Native.Nat.{ℕ, zero, suc, ◌+◌, ◌-◌, ◌≤◌, ◌<◌}
+use Prim.Native.Nat.{ℕ, zero, suc, ◌+◌, ◌-◌, ◌*◌, ◌≤◌, ◌<◌}
 use native.Mathlib.Omega.{arith}
 use lib.ListN.{get_or-eq_default}
 use Rattle.wire.specs.declared.Layout.{Layout}
@@ -46,6 +46,20 @@ module _ (k : ℕ) where
       (λ b. by-lt k 32 (λ d. g b (omega arith)) (λ d. not-both e (sym (styled-not h (λ l. d))))))
 
 -- ---- fields
+
+-- where the next field's number stands, and how many are left
+module _ (P : ℕ → ℕ → Type 0) (from width : ℕ) where
+  pub at_first : P from width → P (from + 2 * 0) (width - 0)
+  at_first p =
+      let a : from + 2 * 0 ≡ from = omega arith in
+      let b : width - 0 ≡ width = omega arith in
+      rw (a, b) p
+
+  pub at_next : (i : ℕ) → P (from + 2 * i + 2) (width - i - 1) → P (from + 2 * (i + 1)) (width - (i + 1))
+  at_next i p =
+      let a : from + 2 * (i + 1) ≡ from + 2 * i + 2 = omega arith in
+      let b : width - (i + 1) ≡ width - i - 1 = omega arith in
+      rw (a, b) p
 
 module _ {s : List ℕ} {l : Layout} (good : GoodTable s l) where
   -- the kind of a node's shape

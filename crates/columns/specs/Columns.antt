@@ -10,8 +10,8 @@ use Rattle.wire.specs.Table.{shapes_at, shape_of}
 use Rattle.laws.specs.Tables.{node_shape, GoodTable}
 use Rattle.table.specs.Parts.{Falls}
 use Rattle.desk.specs.Csv.{style_of, kind_of_root, columns_of, most_fields}
-use Rattle.columns.specs.declared.Found.{Found}
-use Rattle.columns.specs.declared.Found.TheVariants.{Fields, Unfit}
+use Rattle.columns.specs.Found.{Found}
+use Rattle.columns.specs.Found.{Fields, Unfit}
 
 unfoldable pub is_some : {X : Type 0} → Option X → Bool
 is_some none = false

@@ -1,10 +1,11 @@
 -- The contract of the public call, from what the walk gives for the root: it stops exactly where a reading of 16,384 entries is refused, and
 -- else its pairs are the differences.
 -- Assumes nothing.
+use Rattle.std.specs.Prelude.{Err}
 use mathlib.Core.Path.{◌≡◌, refl, sym, ap, ap₂, ◌∙◌}
 use mathlib.Core.Bool.{true, false}
 use mathlib.Core.List.{List, ◌++◌}
-use Prim.Native.Nat.{ℕ, ◌+◌, ◌-◌, ◌*◌, ◌/◌, ◌≤◌, ◌<◌}
+use Prim.Native.Nat.{ℕ, ◌+◌, ◌*◌, ◌/◌, ◌≤◌, ◌<◌}
 use native.Mathlib.Nat.{zero-add}
 use native.Mathlib.Omega.{arith}
 use lib.ListN.{length, take, drop}
@@ -12,19 +13,20 @@ use lib.Seq.{take-append_seam}
 use borrow.Author.Tests.{le-leb, lt-leb}
 use Rattle.wire.specs.declared.Refusal.{Refusal}
 use Rattle.wire.specs.declared.Layout.{Layout}
-use Rattle.wire.specs.declared.Checked.{Checked}
-use Rattle.wire.specs.declared.Checked.TheVariants.{Good, Bad}
-use Rattle.wire.specs.declared.ReadAnswer.{ReadAnswer}
-use Rattle.wire.specs.declared.ReadAnswer.TheVariants.{Done, Refused}
+use Rattle.wire.specs.Checked.{Checked}
+use Rattle.wire.specs.Checked.{Good, Bad}
+use Rattle.wire.specs.ReadAnswer.{ReadAnswer}
+use Rattle.wire.specs.ReadAnswer.{Done, Refused}
 use Rattle.wire.specs.Tests.{pick}
 use Rattle.wire.specs.Shape.{Shape}
 use Rattle.wire.specs.Walk.{walk}
 use Rattle.wire.specs.Table.{check, shape_of}
 use Rattle.wire.specs.Reading.{Spot, Outcome, reached, refused, Run, front, read, fit}
 use Rattle.wire.specs.Answers.{read_by, read_answer, run_answer, skims}
+use Rattle.laws.proofs.Answers.{same-refused}
 use Rattle.laws.proofs.ReadBy.{reads_plain}
-use Rattle.desk.specs.declared.CompareAnswer.{CompareAnswer}
-use Rattle.desk.specs.declared.CompareAnswer.TheVariants as answer
+use Rattle.desk.specs.CompareAnswer.{CompareAnswer}
+use Rattle.desk.specs.CompareAnswer as answer
 use Rattle.desk.specs.Path.{most_entries}
 use Rattle.desk.specs.Differ.{Pair, beside, differences, Answered, pairs, refuses, compare_runs, compare_reads, compare_by, compares, pair_words, has_room, compare_answer, list_after}
 use Rattle.beside.specs.Meeting.{Met, meeting}
@@ -33,10 +35,11 @@ use Rattle.beside.proofs.Readings.{shape-meets}
 use Rattle.beside.proofs.Pairs.{same_met}
 use Rattle.compare_item.specs.Pairs.{pairs_from}
 use Rattle.compare_item.proofs.Pairs.{length_from, length_pairs, pairs-front}
-use Rattle.compare_walk.specs.declared.Walked.{Walked}
-use Rattle.compare_walk.specs.declared.Walked.TheVariants.{Both, Apart}
+use Rattle.compare_walk.specs.Walked.{Walked}
+use Rattle.compare_walk.specs.Walked.{Both, Apart}
 use Rattle.compare_walk.specs.Steps.{Left, went, stopped, lay, Gives, goes, stops}
 use Rattle.compare_walk.proofs.Laying.{lay-over, lay-fits}
+use Rattle.compare_walk.proofs.Turns.{same-both}
 use Rattle.compare_walk.proofs.Items.{Fitted, all, cut, fitted}
 use Rattle.compare.specs.Pairs.{refusal_of, Kept}
 use Rattle.compare.specs.Promise.{Compares, OneComparison}
@@ -111,9 +114,8 @@ module _ (table one other : List ℕ) where
   refused-said : (o : Outcome) (n : ℕ) {why : Refusal} {p k : ℕ} → read_answer o n ≡ Refused why p k → o ≡ refused why p
   unfolding read_answer
   refused-said (reached x) n e = let z : ◌≡◌ {A = ℕ} 0 1 = cc in absurd (omega arith)
-  refused-said (refused why p) n {why = why'} {p = p'} e =
-      let same : why ≡ why' = cc in
-      let place : p ≡ p' = cc in
+  refused-said (refused why p) n e =
+      let (same, place, _) = same-refused e in
       rw (same, place)
 
   done-said : (o : Outcome) (n : ℕ) {p k : ℕ} → read_answer o n ≡ Done p k → (x : Spot) × (o ≡ reached x)
@@ -127,10 +129,9 @@ module _ (table one other : List ℕ) where
     where
       go : (c : Checked) → run_answer (read_by false c table most_entries one) ≡ Refused why p k → answer.Refused why p ≡ refusal_of (compare_by c table one other)
       go (Good l) h = unfold compare_by compare_reads in rw (refused-said _ _ (sym (said one l) ∙ h)) (unfold compare_runs refusal_of in refl)
-      go (Bad why' i) h =
+      go (Err r) h =
           unfold read_by read_answer compare_by refusal_of in
-          let same : why' ≡ why = cc in
-          let place : i ≡ p = cc in
+          let (same, place, _) = same-refused h in
           rw (same, place)
 
   pub second-refused : {a b : ReadAnswer} {q j : ℕ} {why : Refusal} {p k : ℕ} → a ≡ skims table one most_entries → b ≡ skims table other most_entries → a ≡ Done q j → b ≡ Refused why p k
@@ -141,7 +142,7 @@ module _ (table one other : List ℕ) where
       go : (c : Checked) → run_answer (read_by false c table most_entries one) ≡ Done q j → run_answer (read_by false c table most_entries other) ≡ Refused why p k
           → answer.OtherRefused why p ≡ refusal_of (compare_by c table one other)
       go (Good l) h i = unfold compare_by compare_reads in rw ((done-said _ _ (sym (said one l) ∙ h)).1, refused-said _ _ (sym (said other l) ∙ i)) (unfold compare_runs refusal_of in refl)
-      go (Bad why' i) h k = unfold read_by read_answer in (let z : ◌≡◌ {A = ℕ} 0 1 = cc in absurd (omega arith))
+      go (Err r) h k = unfold read_by read_answer in (let z : ◌≡◌ {A = ℕ} 0 1 = cc in absurd (omega arith))
 
   pub none-refused : {a b : ReadAnswer} {q j p k : ℕ} → a ≡ skims table one most_entries → b ≡ skims table other most_entries → a ≡ Done q j → b ≡ Done p k
       → answer.Short ≡ refusal_of (compares table one other)
@@ -151,7 +152,7 @@ module _ (table one other : List ℕ) where
       go : (c : Checked) → run_answer (read_by false c table most_entries one) ≡ Done q j → run_answer (read_by false c table most_entries other) ≡ Done p k
           → answer.Short ≡ refusal_of (compare_by c table one other)
       go (Good l) h i = unfold compare_by compare_reads in rw ((done-said _ _ (sym (said one l) ∙ h)).1, (done-said _ _ (sym (said other l) ∙ i)).1) (unfold compare_runs refusal_of in refl)
-      go (Bad why' i) h k = unfold read_by read_answer in (let z : ◌≡◌ {A = ℕ} 0 1 = cc in absurd (omega arith))
+      go (Err r) h k = unfold read_by read_answer in (let z : ◌≡◌ {A = ℕ} 0 1 = cc in absurd (omega arith))
 
   pub bad-compares : (list : List ℕ) {why : Refusal} {i : ℕ} → check table ≡ Bad why i → Compares (compares table one other) list (answer.Refused why i) list
   unfolding compares compare_by
@@ -172,8 +173,8 @@ module _ {s st : List ℕ} {w : Answered} {v : Walked} {q q' m n c : ℕ} (told 
   short-compares list h = go told e
     where
       go : {w : Answered} {v : Walked} → Told s v st w → v ≡ Both q q' m n c → Compares w list answer.Short list
-      go (done {c = d} {ps = ps} k l) e =
-          let same : d ≡ c = cc in
+      go (done {ps = ps} k l) e =
+          let (_, _, _, _, same) = same-both e in
           let no = no_room ps list (omega arith) in
           record { answered = unfold compare_answer in rw no (unfold pick in refl); listed = unfold list_after in rw no (unfold pick in refl) }
       go none e = let z : ◌≡◌ {A = ℕ} 0 1 = cc in absurd (omega arith)
@@ -182,7 +183,7 @@ module _ {s st : List ℕ} {w : Answered} {v : Walked} {q q' m n c : ℕ} (told 
   both-kept = go told e
     where
       go : {w : Answered} {v : Walked} → Told s v st w → v ≡ Both q q' m n c → Kept w c st
-      go (done {c = d} {ps = ps} k l) e = let same : d ≡ c = cc in record { them = ps; empty = s; answered = refl; counted = sym same ∙ k; listed = l }
+      go (done {ps = ps} k l) e = let (_, _, _, _, same) = same-both e in record { them = ps; empty = s; answered = refl; counted = sym same ∙ k; listed = l }
       go none e = let z : ◌≡◌ {A = ℕ} 0 1 = cc in absurd (omega arith)
 
 module _ {w : Answered} {c : ℕ} {words : List ℕ} (k : Kept w c words) (list : List ℕ) (room : c ≤ length list / 2) where

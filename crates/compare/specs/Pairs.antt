@@ -1,8 +1,8 @@
 -- A comparison's refusal, and its pairs as they are kept before they are written.
 -- Assumes nothing.
 use Rattle.std.specs.Prelude.{◌≡◌, List, ℕ, length}
-use Rattle.desk.specs.declared.CompareAnswer.{CompareAnswer}
-use Rattle.desk.specs.declared.CompareAnswer.TheVariants.{Short}
+use Rattle.desk.specs.CompareAnswer.{CompareAnswer}
+use Rattle.desk.specs.CompareAnswer.{Short}
 use Rattle.desk.specs.Differ.{Pair, Answered, pairs, refuses}
 use Rattle.compare_item.specs.Pairs.{pairs_from}
 

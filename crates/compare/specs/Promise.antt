@@ -2,7 +2,7 @@
 -- Assumes nothing.
 use Rattle.std.specs.Prelude.{◌≡◌, List, ℕ}
 use Rattle.laws.specs.Unique.{Unique}
-use Rattle.desk.specs.declared.CompareAnswer.{CompareAnswer}
+use Rattle.desk.specs.CompareAnswer.{CompareAnswer}
 use Rattle.desk.specs.Differ.{Answered, compare_answer, list_after}
 
 -- the answer, and the list as it is left, are those of a comparison

@@ -2,15 +2,14 @@
 #![tactic(auto)]
 
 ghost use Rattle.std.specs.Prelude.{◌++◌, ◌≡◌, ◌/◌, ◌≤◌, length, take, drop};
-ghost use Rattle.wire.specs.declared.Checked.TheVariants.{Good};
+ghost use Rattle.wire.specs.Checked.{Good};
 ghost use Rattle.wire.specs.Table.{check as check_of};
 ghost use Rattle.desk.specs.Differ.{compares, list_after};
 ghost use Rattle.compare.specs.Pairs.{refusal_of, Kept};
 ghost use Rattle.compare.specs.Promise.{Compares};
 
-use compare_walk::Walked;
-use desk::CompareAnswer;
-use wire::{Checked, Layout, ReadAnswer};
+use desk::NotCompared;
+use wire::Layout;
 
 // How many bytes the shorter of two messages has at most for so many words of pairs to be kept while both are judged. An item that
 // differs has a byte in each, so that the pairs of short messages always find room; and what is kept for is cleared first, so short
@@ -26,29 +25,25 @@ const MIDDLE_WORDS: usize = 1024;
 const LONG_WORDS: usize = 6144;
 
 // Why messages of which one is refused aren't compared: the first one's refusal, or else the second one's.
-fn refusal(table: &[u8], one: &[u8], other: &[u8]) -> CompareAnswer
+fn refusal(table: &[u8], one: &[u8], other: &[u8]) -> Result<usize, NotCompared>
     ensures { result ≡ refusal_of (compares table.now one.now other.now) }
 {
     let first = reader::skim(table, one, compare_walk::ROOM);
-    match first {
-        ReadAnswer::Refused {
-            why,
-            place,
-            count: _,
-        } => CompareAnswer::Refused { why, place },
-        ReadAnswer::Done { place: _, count: _ } => {
-            let second = reader::skim(table, other, compare_walk::ROOM);
-            match second {
-                ReadAnswer::Refused {
-                    why,
-                    place,
-                    count: _,
-                } => CompareAnswer::OtherRefused { why, place },
-                // Neither is refused, which the walk rules out where this is called.
-                ReadAnswer::Done { place: _, count: _ } => CompareAnswer::Short,
-            }
-        }
+    if let Err(stopped) = first {
+        return Err(NotCompared::Refused {
+            why: stopped.why,
+            place: stopped.place,
+        });
     }
+    let second = reader::skim(table, other, compare_walk::ROOM);
+    if let Err(stopped) = second {
+        return Err(NotCompared::OtherRefused {
+            why: stopped.why,
+            place: stopped.place,
+        });
+    }
+    // Neither is refused, which the walk rules out where this is called.
+    Err(NotCompared::Short)
 }
 
 // Puts so many words in front of a list.
@@ -56,11 +51,7 @@ fn put_front(list: &mut [u64], words: &[u64], count: usize)
     requires { (count ≤ length list.old) × (count ≤ length words.now) }
     ensures { list.new ≡ take count words.now ++ drop count list.old }
 {
-    let mut i = 0;
-    while i < count {
-        list[i] = words[i];
-        i += 1;
-    }
+    list[..count].copy_from_slice(&words[..count]);
 }
 
 // The pairs of two messages that are both read go into the list, which has room for them: those that were kept, or all by
@@ -96,33 +87,20 @@ fn compare_by(
     other: &[u8],
     words: &mut [u64],
     list: &mut [u64],
-) -> CompareAnswer
+) -> Result<usize, NotCompared>
     requires { check_of table.now ≡ Good l }
     ensures { Compares (compares table.now one.now other.now) list.old result list.new }
 {
     let got = compare_walk::walk_root(table, l, one, other, words);
-    let Walked::Both {
-        one: _,
-        other: _,
-        ones: _,
-        others: _,
-        count,
-    } = got
-    else {
+    let Some(gone) = got else {
         return refusal(table, one, other);
     };
+    let count = gone.count;
     if compare_item::room(list.len()) < count {
-        return CompareAnswer::Short;
+        return Err(NotCompared::Short);
     }
     put_pairs(table, l, one, other, words, count, list);
-    CompareAnswer::Done { count }
-}
-
-fn shorter(one: usize, other: usize) -> usize {
-    if one < other {
-        return one;
-    }
-    other
+    Ok(count)
 }
 
 // The same with words of its own, as many as the messages are likely to need.
@@ -132,11 +110,11 @@ fn compare_good(
     one: &[u8],
     other: &[u8],
     list: &mut [u64],
-) -> CompareAnswer
+) -> Result<usize, NotCompared>
     requires { check_of table.now ≡ Good l }
     ensures { Compares (compares table.now one.now other.now) list.old result list.new }
 {
-    let bytes = shorter(one.len(), other.len());
+    let bytes = one.len().min(other.len());
     if bytes <= SHORT {
         let mut words = [0u64; SHORT_WORDS];
         return compare_by(table, l, one, other, &mut words, list);
@@ -150,12 +128,14 @@ fn compare_good(
 }
 
 // Compares two messages by a table: the places of the items that differ go into the list, in front and two words each.
-pub fn compare(table: &[u8], one: &[u8], other: &[u8], list: &mut [u64]) -> CompareAnswer
+pub fn compare(
+    table: &[u8],
+    one: &[u8],
+    other: &[u8],
+    list: &mut [u64],
+) -> Result<usize, NotCompared>
     ensures { Compares (compares table.now one.now other.now) list.old result list.new }
 {
-    let checked = table::check(table);
-    match checked {
-        Checked::Bad { why, place } => CompareAnswer::Refused { why, place },
-        Checked::Good { layout } => compare_good(table, layout, one, other, list),
-    }
+    let layout = table::check(table)?;
+    compare_good(table, layout, one, other, list)
 }

@@ -6,8 +6,8 @@ use Prim.Native.Nat.{ℕ}
 use lib.Dec.{eqb}
 use Rattle.wire.specs.declared.Refusal.{Refusal}
 use Rattle.wire.specs.declared.Own.{Own}
-use Rattle.wire.specs.declared.Item.{Item}
-use Rattle.wire.specs.declared.Item.TheVariants.{Took, Refused}
+use Rattle.wire.specs.Item.{Item}
+use Rattle.wire.specs.Item.{Took, Refused}
 use Rattle.wire.specs.declared.Layout.{Layout}
 use Rattle.wire.specs.Walk.{following}
 use Rattle.wire.specs.Table.{kind_of, Node}
@@ -17,7 +17,7 @@ use Rattle.table.specs.declared.Stretch.{Stretch}
 use Rattle.table.specs.Parts.{followed}
 use Rattle.read_item.specs.Steps.{spot, own_of, after_of}
 use Rattle.read_item.proofs.Entering.{Found}
-use Rattle.compare_item.specs.declared.Entered.TheVariants.{On, Unread}
+use Rattle.compare_item.specs.Entered.{On, Unread}
 use Rattle.compare_item.specs.Items.{entered_both}
 
 module _ {r : Node} {k n : ℕ} (f : Found r k n) where

@@ -1,19 +1,19 @@
 -- When two leaves are the same: byte by byte, by the numbers of kinds, and on both sides.
 -- Assumes nothing.
 use mathlib.Core.Path.{◌≡◌, refl, sym, ap, ap₂, ◌∙◌}
-use mathlib.Core.Bool.{Bool, true, false}
-use mathlib.Core.List.{List}
+use mathlib.Core.Bool.{Bool, true, false, ◌&&◌}
+use mathlib.Core.List.{List, [], ◌∷◌}
 use mathlib.Core.Logic.{◌⊎◌, inl, inr}
 use Prim.Native.Nat.{ℕ, suc, ◌+◌, ◌-◌, ◌≤◌, ◌<◌, ◌^◌}
 use native.Mathlib.Omega.{arith}
-use lib.ListN.{length, get_or, take, drop, get_or-eq_default}
-use lib.Seq.{drop-length}
+use lib.ListN.{length, take, drop, get_or-eq_default}
 use lib.Dec.{eqb, leb}
+use lib.Pointwise.{pointwise}
 use borrow.Author.Tests.{leb-true, eq-eqb, ne_eqb}
 use Rattle.wire.specs.declared.Refusal.{Refusal}
 use Rattle.wire.specs.declared.Own.{Own}
-use Rattle.wire.specs.declared.Item.{Item}
-use Rattle.wire.specs.declared.Item.TheVariants.{Took, Refused}
+use Rattle.wire.specs.Item.{Item}
+use Rattle.wire.specs.Item.{Took, Refused}
 use Rattle.wire.specs.Tests.{pick, both}
 use Rattle.wire.specs.Shape.{Width, w16, w32, w64, bits, Sign, signed, unsigned, unit, int, Kind, plain}
 use Rattle.wire.specs.Numbers.{varint, zigzagged, unzigzagged, on_first}
@@ -22,7 +22,6 @@ use Rattle.wire.specs.Table.{kinds, kind_of}
 use Rattle.wire.specs.Reading.{read_plain, head}
 use Rattle.laws.specs.KindRanges.{IsInt, IsLeaf}
 use Rattle.laws.proofs.Splits.{by-test, by-lt, by-eq, both_left, both_right, not-both}
-use Rattle.laws.proofs.Parts.{next}
 use Rattle.laws.proofs.Rule.{at}
 use Rattle.laws.proofs.Numbers.{bits_of}
 use Rattle.laws.proofs.NumbersAgain.{zigzag-again}
@@ -32,45 +31,24 @@ use Rattle.leaf.proofs.Leaves.{content-kind, low-place}
 use Rattle.read_item.proofs.Heads.{head-leaf}
 use Rattle.desk.specs.Differ.{same_bytes}
 use Rattle.beside.specs.Meeting.{content_at, same_own}
-use Rattle.beside.proofs.Same.{bytes-true}
 use Rattle.beside.proofs.Owns.{head-used, head-content}
-use Rattle.compare_item.specs.declared.Taken.{Taken}
-use Rattle.compare_item.specs.declared.Taken.TheVariants.{Both, Unread}
+use Rattle.compare_item.specs.Taken.{Taken}
+use Rattle.compare_item.specs.Taken.{Both, Unread}
 use Rattle.compare_item.specs.Items.{Whole, taken_numbers, taken_both}
 
 -- ---- bytes
 
-module _ (s t : List ℕ) where
-  pub bytes-unequal : (length s ≡ length t → ⊥) → false ≡ same_bytes s t
-  bytes-unequal h = by-test (same_bytes s t) (λ e. absurd (h (ap length (bytes-true s t e)))) sym
-
--- what is left of both, from i on, decides
-pub record Left (s t : List ℕ) (i : ℕ) : Type 0 where
-  pub same : same_bytes (drop i s) (drop i t) ≡ same_bytes s t
-  pub long : length s ≡ length t
-  pub here : i ≤ length s
-
-module _ {s t : List ℕ} {i : ℕ} (left : Left s t i) where
-  left-more : i < length s → same_bytes (drop i s) (drop i t) ≡ both (eqb (get_or s i 0) (get_or t i 0)) (same_bytes (drop (i + 1) s) (drop (i + 1) t))
-  unfolding same_bytes
-  left-more h = rw (next s i h, next t i (omega (arith, left.long)))
-
-  left-none : length s ≤ i → same_bytes (drop i s) (drop i t) ≡ true
-  unfolding same_bytes
-  left-none h =
-      let e : i ≡ length s = omega (arith, left.here) in
-      rw (ap (λ j. drop j s) e ∙ drop-length s, ap (λ j. drop j t) (e ∙ left.long) ∙ drop-length t)
-
-  pub bytes_next : i < length s → get_or s i 0 ≡ get_or t i 0 → Left s t (i + 1)
-  unfolding both
-  bytes_next h e = record { same = rw (left-more h, eq-eqb (get_or s i 0) (get_or t i 0) e) at left.same; long = left.long; here = omega arith }
-
-  pub bytes-differ : i < length s → (get_or s i 0 ≡ get_or t i 0 → ⊥) → false ≡ same_bytes s t
-  unfolding both
-  bytes-differ h e = rw (left-more h, ne_eqb (get_or s i 0) (get_or t i 0) e) at left.same
-
-  pub bytes-end : length s ≤ i → true ≡ same_bytes s t
-  bytes-end h = rw (left-none h) at left.same
+-- what the comparison of slices tells
+pub alike : (s t : List ℕ) → pointwise eqb s t ≡ same_bytes s t
+unfolding same_bytes both
+alike [] [] = refl
+alike [] (b ∷ t) = refl
+alike (a ∷ s) [] = refl
+alike (a ∷ s) (b ∷ t) = go (eqb a b) (alike s t)
+  where
+    go : (x : Bool) → pointwise eqb s t ≡ same_bytes s t → x && pointwise eqb s t ≡ both x (same_bytes s t)
+    go true rest = rest
+    go false rest = refl
 
 -- ---- by number
 

@@ -2,18 +2,18 @@
 -- Assumes nothing.
 use Rattle.std.specs.Prelude.{◌≡◌, true, List, ℕ, ◌≤◌, length, eqb}
 use Rattle.wire.specs.declared.Own.{Own}
-use Rattle.wire.specs.declared.Item.{Item}
-use Rattle.wire.specs.declared.Item.TheVariants.{Took, Refused}
+use Rattle.wire.specs.Item.{Item}
+use Rattle.wire.specs.Item.{Took, Refused}
 use Rattle.wire.specs.declared.Layout.{Layout}
 use Rattle.wire.specs.Shape.{Kind}
 use Rattle.wire.specs.Values.{is_pooled}
 use Rattle.wire.specs.Table.{Node}
 use Rattle.read_item.specs.Steps.{after_of}
 use Rattle.beside.specs.Meeting.{same_own}
-use Rattle.compare_item.specs.declared.Taken.{Taken}
-use Rattle.compare_item.specs.declared.Taken.TheVariants.{Both, Unread}
-use Rattle.compare_item.specs.declared.Entered.{Entered}
-use Rattle.compare_item.specs.declared.Entered.TheVariants.{On, Unread as Unentered}
+use Rattle.compare_item.specs.Taken.{Taken}
+use Rattle.compare_item.specs.Taken.{Both, Unread}
+use Rattle.compare_item.specs.Entered.{Entered}
+use Rattle.compare_item.specs.Entered.{On, Unread as Unentered}
 
 -- a text's or bytes' content is the last of its own bytes, which are there
 pub record Whole (k : Kind) (own : Own) (s : List ℕ) : Type 0 where

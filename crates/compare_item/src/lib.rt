@@ -9,41 +9,33 @@ ghost use Rattle.wire.specs.Reading.{head};
 ghost use Rattle.laws.specs.KindRanges.{IsInt, IsInner, IsLeaf};
 ghost use Rattle.laws.specs.Tables.{GoodTable};
 ghost use Rattle.read_item.specs.Steps.{spot, Inner, own_of};
-ghost use Rattle.desk.specs.Differ.{same_bytes};
 ghost use Rattle.beside.specs.Meeting.{same_own};
 ghost use Rattle.compare_item.specs.Pairs.{with_pair};
 ghost use Rattle.compare_item.specs.Items.{Whole, taken_numbers, taken_both, entered_both};
 
 use table::Stretch;
-use wire::{Item, Layout, Own, Refusal};
+use wire::{Layout, Own, Refusal};
+
+// What was taken on both sides: whether it is the same, and its bytes on each.
+#[derive(Clone, Copy)]
+pub struct Sides {
+    pub same: bool,
+    pub used: usize,
+    pub other: usize,
+}
+
+// What an item that has children leaves to do: whether it is the same, and on each side its bytes and the stretch that follows it.
+#[derive(Clone, Copy)]
+pub struct Inside {
+    pub same: bool,
+    pub used: usize,
+    pub to: Stretch,
+    pub other: usize,
+    pub toward: Stretch,
+}
 
 // A pair's words.
 pub const WORDS: usize = 2;
-
-// What was taken on both sides: whether it is the same, and its bytes on each; or a side is refused.
-#[derive(Clone, Copy)]
-pub enum Taken {
-    Both {
-        same: bool,
-        used: usize,
-        other: usize,
-    },
-    Unread,
-}
-
-// What an item that has children leaves to do: whether it is the same, and on each side its bytes and the stretch that follows it;
-// or a side is refused.
-#[derive(Clone, Copy)]
-pub enum Entered {
-    On {
-        same: bool,
-        used: usize,
-        to: Stretch,
-        other: usize,
-        toward: Stretch,
-    },
-    Unread,
-}
 
 // ---- pairs
 
@@ -67,30 +59,11 @@ pub fn put(list: &mut [u64], at: usize, one: usize, other: usize)
 
 // ---- when two leaves differ
 
-fn same_bytes(s: &[u8], t: &[u8]) -> bool
-    ensures { result ≡ same_bytes s.now t.now }
-{
-    if s.len() != t.len() {
-        return false;
-    }
-    let mut i = 0;
-    while i < s.len() {
-        if s[i] != t[i] {
-            return false;
-        }
-        i += 1;
-    }
-    true
-}
-
 // Whether a kind is one of texts or of bytes.
 fn is_pooled(number: u8) -> bool
     ensures { result ≡ is_pooled (kind_of number) }
 {
-    match number {
-        12..=13 => true,
-        _ => false,
-    }
+    matches!(number, 12..=13)
 }
 
 // Texts and bytes compare by content, other leaves by their first words.
@@ -104,36 +77,33 @@ fn same_leaf(number: u8, mine: Own, part: &[u8], its: Own, other: &[u8]) -> bool
         let from = end - mine.second as usize;
         let behind = its.used;
         let start = behind - its.second as usize;
-        return same_bytes(&part[from..end], &other[start..behind]);
+        return part[from..end] == other[start..behind];
     }
-    let here = mine.first;
-    let there = its.first;
-    here == there
+    mine.first == its.first
 }
 
 // ---- a leaf on both sides
 
 // Two numbers that were read: their first words decide.
-fn both(got: Item, there: Item) -> Taken
+fn both(got: Result<Own, Refusal>, there: Result<Own, Refusal>) -> Option<Sides>
     ensures { result ≡ taken_numbers got there }
 {
-    let Item::Took { own: a } = got else {
-        return Taken::Unread;
+    let Ok(a) = got else {
+        return None;
     };
-    let Item::Took { own: b } = there else {
-        return Taken::Unread;
+    let Ok(b) = there else {
+        return None;
     };
-    let same = a.first == b.first;
-    Taken::Both {
-        same,
+    Some(Sides {
+        same: a.first == b.first,
         used: a.used,
         other: b.used,
-    }
+    })
 }
 
 // An integer. It is taken here, as in `read_item::int_bytes` and for the same reason: that has a single caller, and so is part
 // of it. Two signed numbers are the same if they are so before they are unzigzagged.
-fn take_int(number: u8, part: &[u8], other: &[u8]) -> Taken
+fn take_int(number: u8, part: &[u8], other: &[u8]) -> Option<Sides>
     requires { IsInt number }
     ensures { result ≡ taken_both (kind_of number) part.now other.now (head (kind_of number) 0 0 part.now) (head (kind_of number) 0 0 other.now) }
 {
@@ -143,37 +113,37 @@ fn take_int(number: u8, part: &[u8], other: &[u8]) -> Taken
         1 => both(fixint::take8(part, true), fixint::take8(other, true)),
         5 => both(fixint::take8(part, false), fixint::take8(other, false)),
         _ => both(
-            varint::take(part, varint::U64::MOST, varint::U64::LAST),
-            varint::take(other, varint::U64::MOST, varint::U64::LAST),
+            varint::take::<varint::U64>(part),
+            varint::take::<varint::U64>(other),
         ),
     }
 }
 
 // Another leaf.
-fn take_other(number: u8, part: &[u8], place: usize, other: &[u8], there: usize) -> Taken
+fn take_other(number: u8, part: &[u8], place: usize, other: &[u8], there: usize) -> Option<Sides>
     requires leaf { IsLeaf number }
     requires part_bound { place + length part.now < 2 ^ 64 }
     requires other_bound { there + length other.now < 2 ^ 64 }
     ensures { result ≡ taken_both (kind_of number) part.now other.now (head (kind_of number) 0 place part.now) (head (kind_of number) 0 there other.now) }
 {
     let got = leaf::take(number, part, place);
-    let Item::Took { own: a } = got else {
-        return Taken::Unread;
+    let Ok(a) = got else {
+        return None;
     };
     let beside = leaf::take(number, other, there);
-    let Item::Took { own: b } = beside else {
-        return Taken::Unread;
+    let Ok(b) = beside else {
+        return None;
     };
     let same = same_leaf(number, a, part, b, other);
-    Taken::Both {
+    Some(Sides {
         same,
         used: a.used,
         other: b.used,
-    }
+    })
 }
 
 // Any leaf that stands at `place` of the first message and at `there` of the second.
-pub fn take_leaf(number: u8, part: &[u8], place: usize, other: &[u8], there: usize) -> Taken
+pub fn take_leaf(number: u8, part: &[u8], place: usize, other: &[u8], there: usize) -> Option<Sides>
     requires leaf { IsLeaf number }
     requires part_bound { place + length part.now < 2 ^ 64 }
     requires other_bound { there + length other.now < 2 ^ 64 }
@@ -189,26 +159,24 @@ pub fn take_leaf(number: u8, part: &[u8], place: usize, other: &[u8], there: usi
 
 // The own bytes of an item that has children: so many, of which a variant's number names one. It is taken here, as in
 // `read_item::head_bytes` and for the same reason as an integer.
-fn inner_bytes(number: u8, count: usize, part: &[u8], place: usize) -> Item
+fn inner_bytes(number: u8, count: usize, part: &[u8], place: usize) -> Result<Own, Refusal>
     requires { IsInner number }
     ensures { result ≡ head (kind_of number) count place part.now }
 {
     match number {
         15 => leaf::take_flag(part, Refusal::BadOption),
-        18 => Item::Took {
-            own: Own {
-                first: 0,
-                second: 0,
-                used: 0,
-                shortest: true,
-            },
-        },
+        18 => Ok(Own {
+            first: 0,
+            second: 0,
+            used: 0,
+            shortest: true,
+        }),
         19 => read_item::known(count, varint::take_u32(part)),
-        _ => varint::take(part, varint::U64::MOST, varint::U64::LAST),
+        _ => varint::take::<varint::U64>(part),
     }
 }
 
-// Both sides' own bytes at `place` of the first message and at `there` of the second, and what follows them.
+// Sides sides' own bytes at `place` of the first message and at `there` of the second, and what follows them.
 pub fn enter(
     table: &[u8],
     l: Layout,
@@ -218,7 +186,7 @@ pub fn enter(
     place: usize,
     other: &[u8],
     there: usize,
-) -> Entered
+) -> Option<Inside>
     requires good_table { GoodTable table.now l }
     requires node_lt_nodes { node < l.nodes }
     requires inner { Inner table.now l node number }
@@ -226,22 +194,22 @@ pub fn enter(
 {
     let width = table::child_count(table, l, node);
     let got = inner_bytes(number, width, part, place);
-    let Item::Took { own: a } = got else {
-        return Entered::Unread;
+    let Ok(a) = got else {
+        return None;
     };
     let beside = inner_bytes(number, width, other, there);
-    let Item::Took { own: b } = beside else {
-        return Entered::Unread;
+    let Ok(b) = beside else {
+        return None;
     };
     let from = table::first_child(table, l, node);
     let to = table::follow(number, a.first, from, width);
     let toward = table::follow(number, b.first, from, width);
     let alike = a.first == b.first;
-    Entered::On {
+    Some(Inside {
         same: alike,
         used: a.used,
         to,
         other: b.used,
         toward,
-    }
+    })
 }

@@ -10,11 +10,11 @@ use lib.ListN.{length, take, drop}
 use lib.Dec.{eqb}
 use Rattle.wire.specs.declared.Refusal.{Refusal}
 use Rattle.wire.specs.declared.Own.{Own}
-use Rattle.wire.specs.declared.Item.{Item}
-use Rattle.wire.specs.declared.Item.TheVariants.{Took, Refused}
+use Rattle.wire.specs.Item.{Item}
+use Rattle.wire.specs.Item.{Took, Refused}
 use Rattle.wire.specs.declared.Layout.{Layout}
-use Rattle.wire.specs.declared.ReadAnswer.{ReadAnswer}
-use Rattle.wire.specs.declared.ReadAnswer.TheVariants.{Done, Refused as NotRead}
+use Rattle.wire.specs.ReadAnswer.{ReadAnswer}
+use Rattle.wire.specs.ReadAnswer.{Done, Refused as NotRead}
 use Rattle.wire.specs.Answers.{read_answer}
 use Rattle.wire.specs.Tests.{pick, given}
 use Rattle.wire.specs.Shape.{Kind}
@@ -24,6 +24,7 @@ use Rattle.wire.specs.Table.{kind_of, Node, node_at, record_of, shapes_at}
 use Rattle.wire.specs.Reading.{head, Spot, Outcome, reached, refused, Run, past, reading, fit}
 use Rattle.laws.specs.KindRanges.{IsInner}
 use Rattle.laws.specs.Tables.{node_kind, node_count, node_shape, node_shapes, GoodTable}
+use Rattle.laws.proofs.Answers.{same-done}
 use Rattle.laws.proofs.Known.{head-known}
 use Rattle.laws.proofs.EachKind.{outer-kinds}
 use Rattle.laws.proofs.Children.{walk-node}
@@ -41,15 +42,17 @@ use Rattle.beside.specs.Laws.{Passes, passes, stops}
 use Rattle.beside.proofs.Readings.{row-meets, rounds-meets}
 use Rattle.beside.proofs.Owns.{head-used}
 use Rattle.compare_item.specs.Pairs.{with_pair, pairs_from}
-use Rattle.compare_item.specs.declared.Taken.{Taken}
-use Rattle.compare_item.specs.declared.Taken.TheVariants.{Both, Unread}
-use Rattle.compare_item.specs.declared.Entered.{Entered}
-use Rattle.compare_item.specs.declared.Entered.TheVariants.{On, Unread as Unentered}
+use Rattle.compare_item.specs.declared.Sides as item
+use Rattle.compare_item.specs.declared.Inside.{Inside}
+use Rattle.compare_item.specs.Taken.{Taken}
+use Rattle.compare_item.specs.Taken.{Both, Unread}
+use Rattle.compare_item.specs.Entered.{Entered}
+use Rattle.compare_item.specs.Entered.{On, Unread as Unentered}
 use Rattle.compare_item.specs.Items.{taken_both, entered_both}
 use Rattle.compare_item.proofs.Leaves.{pooled-not}
-use Rattle.compare_walk.specs.declared.Walked.{Walked}
-use Rattle.compare_walk.specs.declared.Walked.TheVariants.{Apart}
-use Rattle.compare_walk.specs.declared.Walked.TheVariants as walked
+use Rattle.compare_walk.specs.Walked.{Walked}
+use Rattle.compare_walk.specs.Walked.{Apart}
+use Rattle.compare_walk.specs.Walked as walked
 use Rattle.compare_walk.specs.Steps.{Left, went, stopped, lay, Gives, passed_by, passed}
 use Rattle.compare_walk.proofs.Laying.{lay-nothing, lay-over, lay-fits, lay-after, gives-stopped, gives-went}
 
@@ -62,6 +65,18 @@ ends-bare f z = go (f z)
     go : (r : Met) → meet_on r meet_nothing ≡ r
     go (met m n ps y) = unfold meet_on meet_nothing met_after in rw (add-zero m, add-zero n, append-nil ps)
     go unread = unfold meet_on in refl
+
+-- ---- two answers that are one have the same parts
+
+same-taken : {b b' : Bool} {u u' o o' : ℕ} → Both b u o ≡ Both b' u' o' → (b ≡ b') × (u ≡ u') × (o ≡ o')
+same-taken {b} {b'} {u} {u'} {o} {o'} e =
+    let same : ◌≡◌ {A = item.Sides} (record { same = b; used = u; other = o }) (record { same = b'; used = u'; other = o' }) = cc in
+    (ap (λ r. r.same) same, ap (λ r. r.used) same, ap (λ r. r.other) same)
+
+same-entered : {b b' : Bool} {u u' o o' : ℕ} {t t' w w' : Stretch} → On b u t o w ≡ On b' u' t' o' w' → (b ≡ b') × (u ≡ u') × (t ≡ t') × (o ≡ o') × (w ≡ w')
+same-entered {b} {b'} {u} {u'} {o} {o'} {t} {t'} {w} {w'} e =
+    let same : ◌≡◌ {A = Inside} (record { same = b; used = u; to = t; other = o; toward = w }) (record { same = b'; used = u'; to = t'; other = o'; toward = w' }) = cc in
+    (ap (λ r. r.same) same, ap (λ r. r.used) same, ap (λ r. r.to) same, ap (λ r. r.other) same, ap (λ r. r.toward) same)
 
 -- ---- an item wants room on both sides
 
@@ -228,7 +243,9 @@ module _ {s : List ℕ} {l : Layout} {i : ℕ} (g : GoodTable s l) (below : i < 
       where
         go : (i' j : Item) → own_of head node x ≡ i' → own_of head node y ≡ j → entered_both l i node i' j ≡ On same used to other toward → Enters s l i x y same used to other toward
         go (Took a) (Took b) p p' h =
-            unfold entered_both in record { a = a; b = b; mine = p; its = p'; same-so = cc; used-so = cc; to-so = cc; other-so = cc; toward-so = cc }
+            unfold entered_both in
+            let (same-so, used-so, to-so, other-so, toward-so) = same-entered h in
+            record { a = a; b = b; mine = p; its = p'; same-so = same-so; used-so = used-so; to-so = to-so; other-so = other-so; toward-so = toward-so }
         go (Took a) (Refused why) p p' h = unfold entered_both in (let z : ◌≡◌ {A = ℕ} 0 1 = cc in absurd (omega arith))
         go (Refused why) j p p' h = unfold entered_both in (let z : ◌≡◌ {A = ℕ} 0 1 = cc in absurd (omega arith))
 
@@ -302,8 +319,7 @@ module _ {s : List ℕ} {l : Layout} {i : ℕ} (g : GoodTable s l) (below : i < 
         go : (i' j : Item) → head (kind_of k) 0 p bs ≡ i' → head (kind_of k) 0 p' bs' ≡ j → taken_both (kind_of k) bs bs' i' j ≡ Both same used other → (used ≤ length bs) × (other ≤ length bs')
         go (Took a) (Took b) f f' h =
             unfold taken_both in
-            let u : a.used ≡ used = cc in
-            let v : b.used ≡ other = cc in
+            let (_, u, v) = same-taken h in
             (rw (← u) (head-used (kind_of k) 0 (spot bs p) f), rw (← v) (head-used (kind_of k) 0 (spot bs' p') f'))
         go (Took a) (Refused why) f f' h = unfold taken_both in (let z : ◌≡◌ {A = ℕ} 0 1 = cc in absurd (omega arith))
         go (Refused why) j f f' h = unfold taken_both in (let z : ◌≡◌ {A = ℕ} 0 1 = cc in absurd (omega arith))
@@ -348,9 +364,7 @@ module _ {s : List ℕ} {l : Layout} {i : ℕ} (g : GoodTable s l) (below : i < 
                 (went (beside (past used (spot bs p)) (past other (spot bs' p'))) (m + 1) (n + 1) (c + 1) (with_pair p p' c st))
             go (Took a) (Took b) h =
                 unfold taken_both meet_two in
-                let t : same_own (kind_of k) a bs b bs' ≡ same = cc in
-                let u : a.used ≡ used = cc in
-                let v : b.used ≡ other = cc in
+                let (t, u, v) = same-taken h in
                 rw (t, ← u, ← v) (by a b same)
             go (Took a) (Refused why) h = unfold taken_both in (let z : ◌≡◌ {A = ℕ} 0 1 = cc in absurd (omega arith))
             go (Refused why) j h = unfold taken_both in (let z : ◌≡◌ {A = ℕ} 0 1 = cc in absurd (omega arith))
@@ -374,10 +388,8 @@ module _ (m n c : ℕ) (r q : Run) {a b : ReadAnswer} (one : a ≡ answer_behind
       go : (o o' : Outcome) → read_answer o (m + length r.made) ≡ Done at k → read_answer o' (n + length q.made) ≡ Done by j → walked.Both at by k j c ≡ passed_by m n c r.made o q.made o'
       go (reached x) (reached y) h i =
           unfold read_answer passed_by in
-          let here : x.place ≡ at = cc in
-          let there : y.place ≡ by = cc in
-          let made : m + length r.made ≡ k = cc in
-          let more : n + length q.made ≡ j = cc in
+          let (here, made) = same-done h in
+          let (there, more) = same-done i in
           rw (here, there, made, more)
       go (reached x) (refused why i) h k = unfold read_answer in (let z : ◌≡◌ {A = ℕ} 0 1 = cc in absurd (omega arith))
       go (refused why i) o' h k = unfold read_answer in (let z : ◌≡◌ {A = ℕ} 0 1 = cc in absurd (omega arith))

@@ -16,7 +16,7 @@ use Rattle.desk.specs.Differ.{Pair, Sides, beside}
 use Rattle.beside.specs.Meeting.{Met, met, unread, met_after, meet_nothing, meet_on, meet_then}
 use Rattle.compare_item.specs.Pairs.{pairs_from}
 use Rattle.compare_item.proofs.Pairs.{pairs-behind}
-use Rattle.compare_walk.specs.declared.Walked.TheVariants.{Both, Apart}
+use Rattle.compare_walk.specs.Walked.{Both, Apart}
 use Rattle.compare_walk.specs.Steps.{Left, went, stopped, lay, Gives, goes, stops}
 
 -- ---- room on both sides

@@ -7,7 +7,7 @@ use Prim.Native.Nat.{ℕ, ◌+◌}
 use native.Mathlib.Omega.{arith}
 use lib.ListN.{length}
 use Rattle.wire.specs.declared.Layout.{Layout}
-use Rattle.wire.specs.declared.Checked.TheVariants.{Good}
+use Rattle.wire.specs.Checked.{Good}
 use Rattle.wire.specs.Walk.{walk}
 use Rattle.wire.specs.Table.{check, shape_of}
 use Rattle.wire.specs.Reading.{front}
@@ -19,7 +19,7 @@ use Rattle.table.proofs.Stretches.{rounds-once, flat-rounds, root-number}
 use Rattle.desk.specs.Path.{most_entries}
 use Rattle.desk.specs.Differ.{beside}
 use Rattle.beside.specs.Meeting.{meeting}
-use Rattle.compare_walk.specs.declared.Walked.{Walked}
+use Rattle.compare_walk.specs.Walked.{Walked}
 use Rattle.compare_walk.specs.Steps.{lay, Gives}
 use Rattle.compare_walk.proofs.Items.{ends-bare}
 

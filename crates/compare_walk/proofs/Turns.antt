@@ -25,8 +25,9 @@ use Rattle.beside.specs.Meeting.{Met, met, unread, meet_then, meeting}
 use Rattle.beside.specs.Laws.{Meets, ends, first, second, MeetsReads}
 use Rattle.beside.proofs.Readings.{shape-meets, row-meets}
 use Rattle.compare_item.specs.Pairs.{pairs_from}
-use Rattle.compare_walk.specs.declared.Walked.{Walked}
-use Rattle.compare_walk.specs.declared.Walked.TheVariants.{Both, Apart}
+use Rattle.compare_walk.specs.declared.Gone.{Gone}
+use Rattle.compare_walk.specs.Walked.{Walked}
+use Rattle.compare_walk.specs.Walked.{Both, Apart}
 use Rattle.compare_walk.specs.Steps.{Left, went, stopped, lay, Gives, goes, stops}
 use Rattle.compare_walk.proofs.Laying.{lay-nothing, on_by, lay-then, gives-stopped, gives-went}
 
@@ -63,8 +64,13 @@ record Arrives (w : Left) (q q' m n c : ℕ) (s : List ℕ) : Type 0 where
   one : x.place ≡ q
   other : y.place ≡ q'
 
+pub same-both : {q q' m n c p p' a b d : ℕ} → Both q q' m n c ≡ Both p p' a b d → (q ≡ p) × (q' ≡ p') × (m ≡ a) × (n ≡ b) × (c ≡ d)
+same-both {q} {q'} {m} {n} {c} {p} {p'} {a} {b} {d} e =
+    let same : ◌≡◌ {A = Gone} (record { one = q; other = q'; ones = m; others = n; count = c }) (record { one = p; other = p'; ones = a; others = b; count = d }) = cc in
+    (ap (λ r. r.one) same, ap (λ r. r.other) same, ap (λ r. r.ones) same, ap (λ r. r.others) same, ap (λ r. r.count) same)
+
 arrives : {w : Left} {a : Walked} {s : List ℕ} {q q' m n c : ℕ} → Gives w a s → a ≡ Both q q' m n c → Arrives w q q' m n c s
-arrives (goes {x} {y} {m} {n} {c} {s}) e = record { x = x; y = y; left = cc; one = cc; other = cc }
+arrives (goes {x} {y}) e = let (one, other, ones, others, count) = same-both e in record { x = x; y = y; left = rw (ones, others, count) refl; one = one; other = other }
 arrives stops e = let z : ◌≡◌ {A = ℕ} 0 1 = cc in absurd (omega arith)
 
 apart : {w : Left} {a : Walked} {s : List ℕ} → Gives w a s → a ≡ Apart → w ≡ stopped

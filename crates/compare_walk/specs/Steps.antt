@@ -8,10 +8,10 @@ use Rattle.wire.specs.Reading.{Spot, Outcome, reached, refused, Run}
 use Rattle.desk.specs.Differ.{Sides, beside}
 use Rattle.beside.specs.Meeting.{Met, met, unread}
 use Rattle.compare_item.specs.Pairs.{pairs_from}
-use Rattle.compare_walk.specs.declared.Walked.{Walked}
-use Rattle.compare_walk.specs.declared.Walked.TheVariants.{Both, Apart}
-use Rattle.compare_walk.specs.declared.Begun.{Begun}
-use Rattle.compare_walk.specs.declared.Begun.TheVariants.{At, Full}
+use Rattle.compare_walk.specs.Walked.{Walked}
+use Rattle.compare_walk.specs.Walked.{Both, Apart}
+use Rattle.compare_walk.specs.Begun.{Begun}
+use Rattle.compare_walk.specs.Begun.{At, Full}
 
 -- where both sides stand, the entries that each made, the pairs, and the list; or a side was refused
 pub data Left : Type 0 where

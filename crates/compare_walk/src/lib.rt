@@ -3,7 +3,7 @@
 #![tactic(auto)]
 
 ghost use Rattle.std.specs.Prelude.{false, ◌≡◌, ◌+◌, ◌-◌, ◌^◌, ◌≤◌, ◌<◌, length};
-ghost use Rattle.wire.specs.declared.Checked.TheVariants.{Good};
+ghost use Rattle.wire.specs.Checked.{Good};
 ghost use Rattle.wire.specs.Table.{check, shape_of};
 ghost use Rattle.wire.specs.Walk.{walk};
 ghost use Rattle.wire.specs.Reading.{head, front, reading, fit};
@@ -15,50 +15,44 @@ ghost use Rattle.desk.specs.Differ.{beside};
 ghost use Rattle.beside.specs.Meeting.{meeting};
 ghost use Rattle.compare_walk.specs.Steps.{lay, Gives, Begins, passed};
 
-use compare_item::{Entered, Taken};
-use table::Stretch;
-use wire::{Layout, ReadAnswer};
+use table::{Stretch, Way};
+use wire::Layout;
+
+// How far both messages are gone over: the place in each, the entries that each made, and the pairs.
+#[derive(Clone, Copy)]
+pub struct Gone {
+    pub one: usize,
+    pub other: usize,
+    pub ones: usize,
+    pub others: usize,
+    pub count: usize,
+}
+
+// A round's front: the entries that are made then.
+#[derive(Clone, Copy)]
+pub struct Heads {
+    pub ones: usize,
+    pub others: usize,
+}
 
 // Each message is read as with a store of so many entries.
 pub const ROOM: usize = 16384;
 
-// Where both messages are gone over to, the entries that each made, and the pairs; or one of them is refused.
-#[derive(Clone, Copy)]
-pub enum Walked {
-    Both {
-        one: usize,
-        other: usize,
-        ones: usize,
-        others: usize,
-        count: usize,
-    },
-    Apart,
-}
-
 // ---- rounds
 
-// A round's front: the entries that are made then, or no room for its own.
-#[derive(Clone, Copy)]
-enum Begun {
-    At { ones: usize, others: usize },
-    Full,
-}
-
-fn begin(headed: bool, ones: usize, others: usize) -> Begun
+fn begin(headed: bool, ones: usize, others: usize) -> Option<Heads>
     ensures { Begins most_entries ones others headed result }
 {
-    if headed {
-        if ones < ROOM {
-            if others < ROOM {
-                return Begun::At {
-                    ones: ones + 1,
-                    others: others + 1,
-                };
-            }
-        }
-        return Begun::Full;
+    if !headed {
+        return Some(Heads { ones, others });
     }
-    Begun::At { ones, others }
+    if ROOM <= ones || ROOM <= others {
+        return None;
+    }
+    Some(Heads {
+        ones: ones + 1,
+        others: others + 1,
+    })
 }
 
 // ---- behind an item that differs
@@ -70,31 +64,23 @@ fn pass(
     node: usize,
     to: Stretch,
     part: &[u8],
-    place: usize,
     toward: Stretch,
     other: &[u8],
-    there: usize,
-    ones: usize,
-    others: usize,
-    count: usize,
-) -> Walked
+    at: Gone,
+) -> Option<Gone>
     requires good_table { GoodTable table.now l }
     requires node_le_nodes { node ≤ l.nodes }
     requires falls { Falls table.now to.from to.width node }
     requires falls_2 { Falls table.now toward.from toward.width node }
-    requires part_bound { place + length part.now < 2 ^ 64 }
-    requires other_bound { there + length other.now < 2 ^ 64 }
-    ensures { result ≡ passed ones others count (fit (most_entries - ones) (rounds_step (reading head) table.now l to.rounds false to.from to.width (spot part.now place))) (fit (most_entries - others) (rounds_step (reading head) table.now l toward.rounds false toward.from toward.width (spot other.now there))) }
+    requires part_bound { at.one + length part.now < 2 ^ 64 }
+    requires other_bound { at.other + length other.now < 2 ^ 64 }
+    ensures { result ≡ passed at.ones at.others at.count (fit (most_entries - at.ones) (rounds_step (reading head) table.now l to.rounds false to.from to.width (spot part.now at.one))) (fit (most_entries - at.others) (rounds_step (reading head) table.now l toward.rounds false toward.from toward.width (spot other.now at.other))) }
 {
     let got = reader::skim_rounds(
-        table, l, node, to.rounds, to.from, to.width, part, place, ROOM, ones,
+        table, l, node, to.rounds, to.from, to.width, part, at.one, ROOM, at.ones,
     );
-    let ReadAnswer::Done {
-        place: behind,
-        count: made,
-    } = got
-    else {
-        return Walked::Apart;
+    let Ok(mine) = got else {
+        return None;
     };
     let beside = reader::skim_rounds(
         table,
@@ -104,24 +90,20 @@ fn pass(
         toward.from,
         toward.width,
         other,
-        there,
+        at.other,
         ROOM,
-        others,
+        at.others,
     );
-    let ReadAnswer::Done {
-        place: beyond,
-        count: more,
-    } = beside
-    else {
-        return Walked::Apart;
+    let Ok(its) = beside else {
+        return None;
     };
-    Walked::Both {
-        one: behind,
-        other: beyond,
-        ones: made,
-        others: more,
-        count,
-    }
+    Some(Gone {
+        one: mine.place,
+        other: its.place,
+        ones: mine.count,
+        others: its.count,
+        count: at.count,
+    })
 }
 
 // ---- the cycle: an item, one with children, the rounds of the stretch that follows it, one round
@@ -133,64 +115,46 @@ fn walk_item(
     l: Layout,
     node: usize,
     part: &[u8],
-    place: usize,
     other: &[u8],
-    there: usize,
-    ones: usize,
-    others: usize,
+    at: Gone,
     list: &mut [u64],
-    count: usize,
-) -> Walked
+) -> Option<Gone>
     requires good_table { GoodTable table.now l }
     requires node_lt_nodes { node < l.nodes }
-    requires part_bound { place + length part.now < 2 ^ 64 }
-    requires other_bound { there + length other.now < 2 ^ 64 }
-    requires count_le_ones { count ≤ ones }
-    ensures { Gives (lay most_entries (node_step meeting table.now l node (beside (spot part.now place) (spot other.now there))) ones others count list.old) result list.new }
+    requires part_bound { at.one + length part.now < 2 ^ 64 }
+    requires other_bound { at.other + length other.now < 2 ^ 64 }
+    requires count_le_ones { at.count ≤ at.ones }
+    ensures { Gives (lay most_entries (node_step meeting table.now l node (beside (spot part.now at.one) (spot other.now at.other))) at.ones at.others at.count list.old) result list.new }
 {
-    if ROOM <= ones {
-        return Walked::Apart;
-    }
-    if ROOM <= others {
-        return Walked::Apart;
+    if ROOM <= at.ones || ROOM <= at.others {
+        return None;
     }
     let number = table::kind_at(table, l, node);
     if table::is_inner(number) {
-        return walk_inner(
-            table, l, node, number, part, place, other, there, ones, others, list, count,
-        );
+        return walk_inner(table, l, node, number, part, other, at, list);
     }
-    let taken = compare_item::take_leaf(number, part, place, other, there);
-    let Taken::Both {
-        same,
-        used,
+    let taken = compare_item::take_leaf(number, part, at.one, other, at.other)?;
+    let one = at.one + taken.used;
+    let beyond = at.other + taken.other;
+    let ones = at.ones + 1;
+    let others = at.others + 1;
+    if taken.same {
+        return Some(Gone {
+            one,
+            other: beyond,
+            ones,
+            others,
+            count: at.count,
+        });
+    }
+    compare_item::put(list, at.count, at.one, at.other);
+    Some(Gone {
+        one,
         other: beyond,
-    } = taken
-    else {
-        return Walked::Apart;
-    };
-    let after = place + used;
-    let behind = there + beyond;
-    let next = ones + 1;
-    let more = others + 1;
-    if same {
-        return Walked::Both {
-            one: after,
-            other: behind,
-            ones: next,
-            others: more,
-            count,
-        };
-    }
-    compare_item::put(list, count, place, there);
-    let pairs = count + 1;
-    Walked::Both {
-        one: after,
-        other: behind,
-        ones: next,
-        others: more,
-        count: pairs,
-    }
+        ones,
+        others,
+        count: at.count + 1,
+    })
 }
 
 // An item that has children. It is apart from `walk_item`, so that only here everything is laid out for the call in a cycle.
@@ -201,73 +165,55 @@ fn walk_inner(
     node: usize,
     number: u8,
     part: &[u8],
-    place: usize,
     other: &[u8],
-    there: usize,
-    ones: usize,
-    others: usize,
+    at: Gone,
     list: &mut [u64],
-    count: usize,
-) -> Walked
+) -> Option<Gone>
     requires good_table { GoodTable table.now l }
     requires node_lt_nodes { node < l.nodes }
     requires inner { Inner table.now l node number }
-    requires ones_lt_most_entries { (ones < most_entries) × (others < most_entries) }
-    requires part_bound { place + length part.now < 2 ^ 64 }
-    requires other_bound { there + length other.now < 2 ^ 64 }
-    requires count_le_ones { count ≤ ones }
-    ensures { Gives (lay most_entries (node_step meeting table.now l node (beside (spot part.now place) (spot other.now there))) ones others count list.old) result list.new }
+    requires ones_lt_most_entries { (at.ones < most_entries) × (at.others < most_entries) }
+    requires part_bound { at.one + length part.now < 2 ^ 64 }
+    requires other_bound { at.other + length other.now < 2 ^ 64 }
+    requires count_le_ones { at.count ≤ at.ones }
+    ensures { Gives (lay most_entries (node_step meeting table.now l node (beside (spot part.now at.one) (spot other.now at.other))) at.ones at.others at.count list.old) result list.new }
 {
-    let entered = compare_item::enter(table, l, node, number, part, place, other, there);
-    let Entered::On {
-        same,
-        used,
-        to,
-        other: past,
-        toward,
-    } = entered
-    else {
-        return Walked::Apart;
+    let inside = compare_item::enter(table, l, node, number, part, at.one, other, at.other)?;
+    let used = inside.used;
+    let past = inside.other;
+    let to = inside.to;
+    let mut next = Gone {
+        one: at.one + used,
+        other: at.other + past,
+        ones: at.ones + 1,
+        others: at.others + 1,
+        count: at.count,
     };
-    let after = place + used;
-    let beyond = there + past;
-    let next = ones + 1;
-    let more = others + 1;
-    if same {
+    if inside.same {
         let way = table::flat(table, l, node, to.from, to.width);
         return walk_rounds(
             table,
             l,
             node,
             to.rounds,
-            way.headed,
-            way.from,
-            way.width,
+            way,
             &part[used..],
-            after,
             &other[past..],
-            beyond,
             next,
-            more,
             list,
-            count,
         );
     }
-    compare_item::put(list, count, place, there);
-    let pairs = count + 1;
+    compare_item::put(list, at.count, at.one, at.other);
+    next.count = at.count + 1;
     pass(
         table,
         l,
         node,
         to,
         &part[used..],
-        after,
-        toward,
+        inside.toward,
         &other[past..],
-        beyond,
         next,
-        more,
-        pairs,
     )
 }
 
@@ -277,74 +223,42 @@ fn walk_rounds(
     l: Layout,
     node: usize,
     rounds: u64,
-    headed: bool,
-    from: usize,
-    width: usize,
+    way: Way,
     part: &[u8],
-    place: usize,
     other: &[u8],
-    there: usize,
-    ones: usize,
-    others: usize,
+    at: Gone,
     list: &mut [u64],
-    count: usize,
-) -> Walked
+) -> Option<Gone>
     requires good_table { GoodTable table.now l }
     requires node_le_nodes { node ≤ l.nodes }
-    requires falls { Falls table.now from width node }
-    requires part_bound { place + length part.now < 2 ^ 64 }
-    requires other_bound { there + length other.now < 2 ^ 64 }
-    requires count_le_ones { count ≤ ones }
-    ensures { Gives (lay most_entries (rounds_step meeting table.now l rounds headed from width (beside (spot part.now place) (spot other.now there))) ones others count list.old) result list.new }
+    requires falls { Falls table.now way.from way.width node }
+    requires part_bound { at.one + length part.now < 2 ^ 64 }
+    requires other_bound { at.other + length other.now < 2 ^ 64 }
+    requires count_le_ones { at.count ≤ at.ones }
+    ensures { Gives (lay most_entries (rounds_step meeting table.now l rounds way.headed way.from way.width (beside (spot part.now at.one) (spot other.now at.other))) at.ones at.others at.count list.old) result list.new }
 {
     let mut rest = part;
-    let mut at = place;
     let mut left = other;
-    let mut by = there;
-    let mut made = ones;
-    let mut more = others;
-    let mut pairs = count;
+    let mut now = at;
     let mut turns = rounds;
     while 0 < turns {
-        let begun = begin(headed, made, more);
-        let Begun::At {
-            ones: ready,
-            others: set,
-        } = begun
-        else {
-            return Walked::Apart;
+        let heads = begin(way.headed, now.ones, now.others)?;
+        let begun = Gone {
+            one: now.one,
+            other: now.other,
+            ones: heads.ones,
+            others: heads.others,
+            count: now.count,
         };
-        let got = walk_stretch(
-            table, l, node, from, width, rest, at, left, by, ready, set, list, pairs,
-        );
-        let Walked::Both {
-            one,
-            other: beyond,
-            ones: first,
-            others: second,
-            count: so_far,
-        } = got
-        else {
-            return Walked::Apart;
-        };
-        let used = one - at;
+        let gone = walk_stretch(table, l, node, way.from, way.width, rest, left, begun, list)?;
+        let used = gone.one - now.one;
         rest = &rest[used..];
-        at = one;
-        let past = beyond - by;
+        let past = gone.other - now.other;
         left = &left[past..];
-        by = beyond;
-        made = first;
-        more = second;
-        pairs = so_far;
+        now = gone;
         turns = turns - 1;
     }
-    Walked::Both {
-        one: at,
-        other: by,
-        ones: made,
-        others: more,
-        count: pairs,
-    }
+    Some(now)
 }
 
 #[cycle(walk_inner_walk_item_walk_rounds_walk_stretch)]
@@ -355,75 +269,58 @@ fn walk_stretch(
     from: usize,
     width: usize,
     part: &[u8],
-    place: usize,
     other: &[u8],
-    there: usize,
-    ones: usize,
-    others: usize,
+    at: Gone,
     list: &mut [u64],
-    count: usize,
-) -> Walked
+) -> Option<Gone>
     requires good_table { GoodTable table.now l }
     requires node_le_nodes { node ≤ l.nodes }
     requires falls { Falls table.now from width node }
-    requires part_bound { place + length part.now < 2 ^ 64 }
-    requires other_bound { there + length other.now < 2 ^ 64 }
-    requires count_le_ones { count ≤ ones }
-    ensures { Gives (lay most_entries (row_step meeting table.now l from width (beside (spot part.now place) (spot other.now there))) ones others count list.old) result list.new }
+    requires part_bound { at.one + length part.now < 2 ^ 64 }
+    requires other_bound { at.other + length other.now < 2 ^ 64 }
+    requires count_le_ones { at.count ≤ at.ones }
+    ensures { Gives (lay most_entries (row_step meeting table.now l from width (beside (spot part.now at.one) (spot other.now at.other))) at.ones at.others at.count list.old) result list.new }
 {
     let mut rest = part;
-    let mut at = place;
     let mut left = other;
-    let mut by = there;
-    let mut made = ones;
-    let mut more = others;
-    let mut pairs = count;
+    let mut now = at;
     let mut child = from;
     let mut turns = width;
     while 0 < turns {
         let c = table::u16_at(table, child);
-        let got = walk_item(table, l, c, rest, at, left, by, made, more, list, pairs);
-        let Walked::Both {
-            one,
-            other: beyond,
-            ones: first,
-            others: second,
-            count: so_far,
-        } = got
-        else {
-            return Walked::Apart;
-        };
-        let used = one - at;
+        let gone = walk_item(table, l, c, rest, left, now, list)?;
+        let used = gone.one - now.one;
         rest = &rest[used..];
-        at = one;
-        let past = beyond - by;
+        let past = gone.other - now.other;
         left = &left[past..];
-        by = beyond;
-        made = first;
-        more = second;
-        pairs = so_far;
+        now = gone;
         child = child + 2;
         turns = turns - 1;
     }
-    Walked::Both {
-        one: at,
-        other: by,
-        ones: made,
-        others: more,
-        count: pairs,
-    }
+    Some(now)
 }
 
 // ---- the root
 
 // Both messages as a good table's root has them.
-pub fn walk_root(table: &[u8], l: Layout, one: &[u8], other: &[u8], list: &mut [u64]) -> Walked
+pub fn walk_root(
+    table: &[u8],
+    l: Layout,
+    one: &[u8],
+    other: &[u8],
+    list: &mut [u64],
+) -> Option<Gone>
     requires { check table.now ≡ Good l }
     ensures { Gives (lay most_entries (walk meeting (shape_of table.now l) (beside (front one.now) (front other.now))) 0 0 0 list.old) result list.new }
 {
     let root = table::root_at(table);
     let way = table::flat(table, l, l.nodes, root, 1);
-    walk_rounds(
-        table, l, l.nodes, 1, way.headed, way.from, way.width, one, 0, other, 0, 0, 0, list, 0,
-    )
+    let start = Gone {
+        one: 0,
+        other: 0,
+        ones: 0,
+        others: 0,
+        count: 0,
+    };
+    walk_rounds(table, l, l.nodes, 1, way, one, other, start, list)
 }

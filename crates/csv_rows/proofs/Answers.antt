@@ -9,16 +9,16 @@ use Prim.Native.Nat.{ℕ, ◌≤◌}
 use lib.ListN.{length}
 use Rattle.wire.specs.declared.Refusal.{Refusal}
 use Rattle.wire.specs.declared.Layout.{Layout}
-use Rattle.wire.specs.declared.Checked.TheVariants.{Good, Bad}
+use Rattle.wire.specs.Checked.{Good, Bad}
 use Rattle.wire.specs.Shape.{struct, node}
 use Rattle.wire.specs.Table.{check, shape_of}
-use Rattle.desk.specs.declared.CsvAnswer.{CsvAnswer}
-use Rattle.desk.specs.declared.CsvAnswer.TheVariants.{Refused, Unfit as NotFit}
+use Rattle.desk.specs.CsvAnswer.{CsvAnswer}
+use Rattle.desk.specs.CsvAnswer.{Refused, Unfit as NotFit}
 use Rattle.desk.specs.Csv.{most_fields, columns, columns_of, export_of, export_by, csv_export}
 use Rattle.spellings.specs.Accept.{import_of, import_by, csv_import}
 use Rattle.spellings.proofs.Trips.{imports-exactly}
-use Rattle.columns.specs.declared.Found.{Found}
-use Rattle.columns.specs.declared.Found.TheVariants.{Fields, Unfit}
+use Rattle.columns.specs.Found.{Found}
+use Rattle.columns.specs.Found.{Fields, Unfit}
 use Rattle.columns.specs.Columns.{field_shapes, Rowed, Finds, rows, no_rows}
 use Rattle.put_row.specs.Rows.{fields_from}
 use Rattle.export_row.specs.Outputs.{Gives, told_output}

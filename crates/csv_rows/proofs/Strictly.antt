@@ -1,5 +1,6 @@
 -- What is read strictly is written again to the same bytes, and an import's message is what the writer writes of those values.
 -- Assumes nothing.
+use Rattle.std.specs.Prelude.{Err}
 use mathlib.Core.Path.{◌≡◌, refl, sym, ap, subst, ◌∙◌}
 use mathlib.Core.Bool.{true, false}
 use mathlib.Core.List.{List, [], ◌∷◌, append-nil}
@@ -7,8 +8,8 @@ use Prim.Native.Nat.{ℕ}
 use native.Mathlib.Omega.{arith}
 use native.Mathlib.Nat.{zero-add}
 use lib.ListN.{take}
-use Rattle.wire.specs.declared.Checked.{Checked}
-use Rattle.wire.specs.declared.Checked.TheVariants.{Good, Bad}
+use Rattle.wire.specs.Checked.{Checked}
+use Rattle.wire.specs.Checked.{Good, Bad}
 use Rattle.wire.specs.Shape.{Shape}
 use Rattle.wire.specs.Table.{check, shape_of}
 use Rattle.wire.specs.Values.{Entry, Value, Valued, whole, too_short, too_long, unknown, values, tell}
@@ -53,7 +54,7 @@ strict-same-bytes table message store row es end room room' ok strict e =
     go : (c : Checked) → check table ≡ c → read_by false c table (room_of store) message ≡ record { made = es; ends = reached end }
         → all_shortest message (items_by c table es) ≡ true → export_by c table message room ≡ bytes row
         → Imports table row room' (within room' (take end.place message))
-    go (Bad why i) q h short e = let z : ◌≡◌ {A = ℕ} 0 1 = cc (ap (λ r. r.ends) h) in absurd (omega arith)
+    go (Err it) q h short e = let z : ◌≡◌ {A = ℕ} 0 1 = cc (ap (λ r. r.ends) h) in absurd (omega arith)
     go (Good l) q h short e =
         let t = shape_of table l in
         let free = (fit-reached (room_of store) (read t (front message)) es end (rw reads_plain at h)).1 in

@@ -6,7 +6,7 @@ use Rattle.wire.specs.Values.{Entry}
 use Rattle.wire.specs.Reading.{Spot, reached}
 use Rattle.wire.specs.Answers.{reads_strict}
 use Rattle.laws.specs.Range.{AreBytes}
-use Rattle.desk.specs.declared.CsvAnswer.{CsvAnswer}
+use Rattle.desk.specs.CsvAnswer.{CsvAnswer}
 use Rattle.desk.specs.Csv.{Output, bytes, within, csv_export, Imports}
 use Rattle.laws.specs.Unique.{Unique}
 use Rattle.export_row.specs.Outputs.{Gives}

@@ -10,7 +10,7 @@ use native.Mathlib.Omega.{arith}
 use lib.ListN.{length, take, drop, get_or, drop_of_length-le}
 use lib.Seq.{drop-cons, drop-append-add}
 use Rattle.wire.specs.Frames.{to_zero}
-use Rattle.decoder.specs.declared.Found.TheVariants.{At, Nothing}
+use Rattle.decoder.specs.Found.{At, Nothing}
 use Rattle.decoder.specs.Parts.{found_of, nowhere, Seeks}
 
 -- ---- the search

@@ -3,10 +3,10 @@
 use Rattle.std.specs.Prelude.{◌≡◌, Bool, true, false, List, [], ◌++◌, ℕ, ◌+◌, ◌≤◌, length, take, drop}
 use Rattle.std.proofs.Math.Option.{Option, none, some, map}
 use Rattle.wire.specs.Frames.{room, to_zero, padded}
-use Rattle.decoder.specs.declared.Found.{Found}
-use Rattle.decoder.specs.declared.Found.TheVariants.{At, Nothing}
-use Rattle.decoder.specs.declared.Decoded.{Decoded}
-use Rattle.decoder.specs.declared.Decoded.TheVariants.{Message, Bad}
+use Rattle.decoder.specs.Found.{Found}
+use Rattle.decoder.specs.Found.{At, Nothing}
+use Rattle.decoder.specs.Decoded.{Decoded}
+use Rattle.decoder.specs.Decoded.{Message, Bad}
 
 unfoldable pub found_of : Option ℕ → Found
 found_of none = Nothing

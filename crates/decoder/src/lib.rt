@@ -7,20 +7,12 @@ ghost use Rattle.wire.specs.Frames.{room, gap_after, to_zero, padded};
 ghost use Rattle.wire.specs.Frames.{decode as message_of};
 ghost use Rattle.decoder.specs.Parts.{found_of, nowhere, Seeks, with, Decodable, Decodes, Joinable};
 
+// A frame that holds no message.
+#[derive(Clone, Copy)]
+pub struct Bad;
+
 // The bytes that a frame may have, its closing zero among them.
 pub const ROOM: usize = 2048;
-
-#[derive(Clone, Copy)]
-pub enum Found {
-    At(usize),
-    Nothing,
-}
-
-#[derive(Clone, Copy)]
-pub enum Decoded {
-    Message(usize),
-    Bad,
-}
 
 // Whether none of eight bytes is zero. The low seven bits of a byte and 127 make its high bit unless they are all zero, and
 // never more than a byte, so that no sum reaches the byte behind it.
@@ -50,17 +42,17 @@ fn near_zero(s: &[u8]) -> usize
     i
 }
 
-pub fn first_zero(s: &[u8]) -> Found
+pub fn first_zero(s: &[u8]) -> Option<usize>
     ensures { result ≡ found_of (to_zero s.now) }
 {
     let mut i = near_zero(s);
     while i < s.len() {
         if s[i] == 0 {
-            return Found::At(i);
+            return Some(i);
         }
         i += 1;
     }
-    Found::Nothing
+    None
 }
 
 // Copies a part into an array of the room's length, from `at` on.
@@ -117,7 +109,7 @@ fn gap_after(code: u8) -> usize
 
 // The message of a frame without its closing zero, group by group. The message's slice is zeros
 // behind `len`, so that a gap's zeros stand there already.
-fn decode(frame: &[u8], message: &mut [u8]) -> Decoded
+fn decode(frame: &[u8], message: &mut [u8]) -> Result<usize, Bad>
     requires { Decodable frame.now message.old }
     ensures { Decodes (message_of frame.now) message.new result }
 {
@@ -137,7 +129,7 @@ fn decode(frame: &[u8], message: &mut [u8]) -> Decoded
         } else if code == 2 {
             // One byte wants no loop.
             if from == frame.len() {
-                return Decoded::Bad;
+                return Err(Bad);
             }
             message[to] = frame[from];
             len = to + 1;
@@ -146,7 +138,7 @@ fn decode(frame: &[u8], message: &mut [u8]) -> Decoded
         } else {
             let count = code as usize - 1;
             if frame.len() - from < count {
-                return Decoded::Bad;
+                return Err(Bad);
             }
             let end = from + count;
             put_bytes(message, to, &frame[from..end]);
@@ -155,12 +147,12 @@ fn decode(frame: &[u8], message: &mut [u8]) -> Decoded
             i = end;
         }
     }
-    Decoded::Message(len)
+    Ok(len)
 }
 
 // The message of a frame that stands in two parts, of which only the first can hold a zero. A frame that came in one chunk
 // is decoded where it stands; any other is joined first.
-pub fn decode_parts(front: &[u8], back: &[u8], message: &mut [u8]) -> Decoded
+pub fn decode_parts(front: &[u8], back: &[u8], message: &mut [u8]) -> Result<usize, Bad>
     requires { Joinable front.now back.now message.old }
     ensures { Decodes (message_of (front.now ++ back.now)) message.new result }
 {
@@ -168,8 +160,8 @@ pub fn decode_parts(front: &[u8], back: &[u8], message: &mut [u8]) -> Decoded
         return decode(back, message);
     }
     let found = first_zero(front);
-    let Found::Nothing = found else {
-        return Decoded::Bad;
+    let None = found else {
+        return Err(Bad);
     };
     let mut frame = zeros();
     let at = front.len();

@@ -9,9 +9,9 @@ use lib.ListN.{length, take, drop, length-drop}
 use borrow.Author.Tests.{lt-ltb, le-ltb, le-leb, lt-leb}
 use Rattle.wire.specs.declared.Refusal.TheVariants.{End, Record}
 use Rattle.wire.specs.declared.Own.{Own}
-use Rattle.wire.specs.declared.Item.{Item}
-use Rattle.wire.specs.declared.Item.TheVariants.{Took, Refused}
-use Rattle.wire.specs.declared.TakeAnswer.TheVariants.{Refused as NotTaken}
+use Rattle.wire.specs.Item.{Item}
+use Rattle.wire.specs.Item.{Took, Refused}
+use Rattle.wire.specs.TakeAnswer.{Refused as NotTaken}
 use Rattle.wire.specs.Tests.{pick, both}
 use Rattle.wire.specs.Table.{kinds, is_kind, kind_of}
 use Rattle.wire.specs.Reading.{head}

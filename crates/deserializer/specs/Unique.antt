@@ -2,7 +2,7 @@
 -- Assumes nothing.
 use Rattle.std.specs.Prelude.{◌≡◌, List, ℕ, drop}
 use Rattle.std.specs.Borrow.{Bor}
-use Rattle.wire.specs.declared.TakeAnswer.{TakeAnswer}
+use Rattle.wire.specs.TakeAnswer.{TakeAnswer}
 use Rattle.wire.specs.Answers.{takes, place_after}
 use Rattle.laws.specs.Unique.{Unique}
 use Rattle.deserializer.specs.declared.Deserializer.{Deserializer}

@@ -6,57 +6,53 @@ ghost use Rattle.std.specs.Prelude.{◌≡◌, drop};
 ghost use Rattle.wire.specs.Answers.{may_take, takes, place_after};
 ghost use Rattle.deserializer.specs.Records.{fresh, takes_next, moved, rest_from};
 
-use wire::{Item, Refusal, TakeAnswer};
+use wire::{Refusal, RefusedAt, Taken};
 
 // Whether an item of the kind can be taken by itself.
 fn may_take(kind: u64) -> bool
     ensures { result ≡ may_take kind }
 {
-    match kind {
-        0..=13 => true,
-        20..=31 => true,
-        _ => false,
-    }
+    matches!(kind, 0..=13 | 20..=31)
 }
 
 // The item of a kind at a place of the message.
-pub fn take_at(kind: u64, message: &[u8], place: usize) -> TakeAnswer
+pub fn take_at(kind: u64, message: &[u8], place: usize) -> Result<Taken, RefusedAt>
     ensures { result ≡ takes kind message.now place }
 {
     if !may_take(kind) {
-        return TakeAnswer::Refused {
+        return Err(RefusedAt {
             why: Refusal::Record,
             place: 0,
-        };
+        });
     }
     if message.len() < place {
-        return TakeAnswer::Refused {
+        return Err(RefusedAt {
             why: Refusal::End,
             place,
-        };
+        });
     }
     let got = leaf::take(kind as u8, &message[place..], place);
     match got {
-        Item::Took { own } => {
+        Ok(own) => {
             let behind = place + own.used;
-            TakeAnswer::Done {
+            Ok(Taken {
                 first: own.first,
                 second: own.second,
                 at: place,
                 place: behind,
-            }
+            })
         }
-        Item::Refused { why } => TakeAnswer::Refused { why, place },
+        Err(why) => Err(RefusedAt { why, place }),
     }
 }
 
 // The place of the next item: behind the one that was taken, or the old one.
-pub fn place_after(place: usize, answer: TakeAnswer) -> usize
+pub fn place_after(place: usize, answer: Result<Taken, RefusedAt>) -> usize
     ensures { result ≡ place_after place answer }
 {
     match answer {
-        TakeAnswer::Done { place: behind, .. } => behind,
-        TakeAnswer::Refused { .. } => place,
+        Ok(taken) => taken.place,
+        Err(_) => place,
     }
 }
 
@@ -81,7 +77,7 @@ pub fn new<'a>(message: &'a [u8]) -> Deserializer<'a>
 }
 
 // The item of a kind at the reader's place, which goes behind it; a refusal keeps the place.
-pub fn take<'s, 'a>(reader: &'s mut Deserializer<'a>, kind: u64) -> TakeAnswer
+pub fn take<'s, 'a>(reader: &'s mut Deserializer<'a>, kind: u64) -> Result<Taken, RefusedAt>
     ensures { (result ≡ takes_next kind reader.old) × (reader.new ≡ moved reader.old result) }
 {
     let place = reader.place;

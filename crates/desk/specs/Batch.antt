@@ -2,19 +2,19 @@
 -- make of it, and what they answer.
 -- Letters: k a shape with its key fields, or a key, t a shape, s bytes, m a message, b a batch's parts, n how many, p a place, l a layout.
 -- Assumes nothing.
-use Rattle.std.specs.Prelude.{Bool, true, List, [], ◌∷◌, ◌++◌, ℕ, ◌+◌, ◌-◌, ◌*◌, ◌^◌, length, take, drop, ltb, leb, eqb}
+use Rattle.std.specs.Prelude.{Bool, true, List, [], ◌∷◌, ◌++◌, ℕ, ◌+◌, ◌-◌, ◌*◌, ◌^◌, length, take, drop, ltb, leb, eqb, Err, Ok}
 use Rattle.std.proofs.Math.Option.{Option, none, some}
 use Rattle.wire.specs.declared.Refusal.TheVariants.{Full}
-use Rattle.wire.specs.declared.Checked.{Checked}
-use Rattle.wire.specs.declared.Checked.TheVariants.{Good as GoodTable, Bad as BadTable}
+use Rattle.wire.specs.Checked.{Checked}
+use Rattle.wire.specs.Checked.{Good as GoodTable, Bad as BadTable}
 use Rattle.desk.specs.declared.Fault.{Fault}
 use Rattle.desk.specs.declared.Fault.TheVariants.{Wire, Fields, Batch as BadBatch, Missing}
-use Rattle.desk.specs.declared.BatchWritten.{BatchWritten}
-use Rattle.desk.specs.declared.BatchWritten.TheVariants.{Done as Written, Refused as NotWritten}
-use Rattle.desk.specs.declared.BatchChecked.{BatchChecked}
-use Rattle.desk.specs.declared.BatchChecked.TheVariants.{Good, Bad}
-use Rattle.desk.specs.declared.BatchFound.{BatchFound}
-use Rattle.desk.specs.declared.BatchFound.TheVariants.{Part as Found, Refused as NotFound}
+use Rattle.desk.specs.BatchWritten.{BatchWritten}
+use Rattle.desk.specs.BatchWritten.{Done as Written, Refused as NotWritten}
+use Rattle.desk.specs.BatchChecked.{BatchChecked}
+use Rattle.desk.specs.BatchChecked.{Good, Bad}
+use Rattle.desk.specs.BatchFound.{BatchFound}
+use Rattle.desk.specs.BatchFound.{Part as Found, Refused as NotFound}
 use Rattle.wire.specs.Tests.{pick, given, both}
 use Rattle.wire.specs.Shape.{Shape}
 use Rattle.wire.specs.Table.{check, shape_of}
@@ -40,7 +40,7 @@ after (fault why) f = fault why
 -- 1 and 2, or the table's shape
 unfoldable pub shape_by : Checked → (table : List ℕ) → Or Shape
 shape_by (GoodTable l) table = so (shape_of table l)
-shape_by (BadTable why i) table = fault (Wire why i)
+shape_by (Err r) table = fault (Wire r.why r.place)
 
 unfoldable pub tabled : (table : List ℕ) → Or Shape
 tabled table = shape_by (check table) table
@@ -178,7 +178,7 @@ batch_last table batch k = found_answer (finds_last table batch k)
 
 -- the part of the batch that is handed back; an answer that points beyond the batch gives the empty part
 unfoldable pub part_of : (batch : List ℕ) → BatchFound → List ℕ
-part_of batch (Found from len) = pick (leb (from + len) (length batch)) (take len (drop from batch)) []
+part_of batch (Ok r) = pick (leb (r.from + r.len) (length batch)) (take r.len (drop r.from batch)) []
 part_of batch (NotFound why) = []
 
 -- ---- the answers in numbers
@@ -207,14 +207,14 @@ checked_says Good = done 0
 checked_says (Bad why) = fault_says why
 
 unfoldable pub found_says : BatchFound → Numbered
-found_says (Found from len) = done 0
+found_says (Ok r) = done 0
 found_says (NotFound why) = fault_says why
 
 -- the part, 0 and 0 on a refusal
 unfoldable pub from_of : BatchFound → ℕ
-from_of (Found from len) = from
+from_of (Ok r) = r.from
 from_of (NotFound why) = 0
 
 unfoldable pub len_of : BatchFound → ℕ
-len_of (Found from len) = len
+len_of (Ok r) = r.len
 len_of (NotFound why) = 0

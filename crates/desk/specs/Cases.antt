@@ -4,11 +4,11 @@ use Rattle.std.specs.Prelude.{◌≡◌, List, [], ◌∷◌, ◌++◌, ℕ, len
 use mathlib.Core.List as lists
 use Rattle.wire.specs.Answers.{Numbered}
 use Rattle.wire.specs.Cases.{table_t, tabled, leaf_table}
-use Rattle.desk.specs.declared.FindAnswer.{FindAnswer}
-use Rattle.desk.specs.declared.CompareAnswer.{CompareAnswer}
+use Rattle.desk.specs.FindAnswer.{FindAnswer}
+use Rattle.desk.specs.CompareAnswer.{CompareAnswer}
 use Rattle.desk.specs.Path.{finds, find_says, first_of, second_of}
-use Rattle.desk.specs.declared.BatchFound.{BatchFound}
-use Rattle.desk.specs.declared.BatchFound.TheVariants.{Part as PartFound}
+use Rattle.desk.specs.BatchFound.{BatchFound}
+use Rattle.desk.specs.BatchFound.{Part as PartFound}
 use Rattle.desk.specs.Differ.{compares, compare_answer, list_after, compare_says, which_of, count_of}
 use Rattle.desk.specs.Compact.{batch_compact, batch_compact_out}
 use Rattle.desk.specs.Csv.{Output, csv_answer, out_after, csv_says, csv_export}

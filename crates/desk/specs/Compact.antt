@@ -5,7 +5,7 @@ use Rattle.std.specs.Prelude.{Bool, true, false, List, [], ◌∷◌, ℕ, ◌+�
 use Rattle.std.proofs.Math.Option.{Option, none, some}
 use Rattle.desk.specs.declared.Key.{Key}
 use Rattle.desk.specs.declared.Row.{Row}
-use Rattle.desk.specs.declared.BatchWritten.{BatchWritten}
+use Rattle.desk.specs.BatchWritten.{BatchWritten}
 use Rattle.wire.specs.Tests.{pick}
 use Rattle.desk.specs.Rows.{same_key, last_row}
 use Rattle.desk.specs.Messages.{Message}

@@ -3,16 +3,16 @@
 -- Letters: k a kind, f a field's style, fs styles, cs columns, v a value, vs values, a and b an entry's words, s bytes, n a place,
 -- t a shape, p a spelling of anything, l a layout.
 -- Assumes nothing.
-use Rattle.std.specs.Prelude.{◌≡◌, Bool, true, false, List, [], ◌∷◌, ◌++◌, ℕ, zero, suc, ◌+◌, ◌-◌, ◌/◌, ◌%◌, ◌^◌, length, drop, ltb, leb, eqb}
+use Rattle.std.specs.Prelude.{◌≡◌, Bool, true, false, List, [], ◌∷◌, ◌++◌, ℕ, zero, suc, ◌+◌, ◌-◌, ◌/◌, ◌%◌, ◌^◌, length, drop, ltb, leb, eqb, Err}
 use mathlib.Core.List as lists
 use Rattle.std.proofs.Math.Option.{Option, none, some}
 use Rattle.wire.specs.declared.Refusal.{Refusal}
 use Rattle.wire.specs.declared.Refusal.TheVariants.{Full}
 use Rattle.wire.specs.declared.Layout.{Layout}
-use Rattle.wire.specs.declared.Checked.{Checked}
-use Rattle.wire.specs.declared.Checked.TheVariants.{Good, Bad}
-use Rattle.desk.specs.declared.CsvAnswer.{CsvAnswer}
-use Rattle.desk.specs.declared.CsvAnswer.TheVariants.{Done, Refused, Unfit, NoRow}
+use Rattle.wire.specs.Checked.{Checked}
+use Rattle.wire.specs.Checked.{Good, Bad}
+use Rattle.desk.specs.CsvAnswer.{CsvAnswer}
+use Rattle.desk.specs.CsvAnswer.{Done, Refused, Unfit, NoRow}
 use Rattle.wire.specs.Tests.{pick, given, both}
 use Rattle.wire.specs.Shape.{bits, Sign, signed, unsigned, Plain, bool, i8, u8, f32, f64, char, unit, int, fixed, Content, text, raw, Kind, plain, pooled, option, sequence, map, struct, enum, same_kind, Shape, node, Shapes, count}
 use Rattle.wire.specs.Shape as shapes
@@ -243,7 +243,7 @@ export_of (some cs) t message room = export_read cs t message room (fit most_ent
 
 unfoldable pub export_by : Checked → List ℕ → List ℕ → ℕ → Output
 export_by (Good l) table message room = export_of (columns_of (shape_of table l)) (shape_of table l) message room
-export_by (Bad e i) table message room = refusal (Refused e i)
+export_by (Err r) table message room = refusal (Refused r.why r.place)
 
 unfoldable pub csv_export : (table message : List ℕ) (room : ℕ) → Output
 csv_export table message room = export_by (check table) table message room

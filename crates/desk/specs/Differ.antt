@@ -2,12 +2,12 @@
 -- Letters: t a shape, k its kind, n how many children it has, e and f entries, a and b what comes next on each side, x and y where
 -- the sides stand, s a source of items or bytes, p a place or a pair, r a run, l a layout; a prime is for the other message.
 -- Assumes nothing.
-use Rattle.std.specs.Prelude.{Bool, true, false, List, [], ◌∷◌, ◌++◌, ℕ, ◌/◌, length, drop, eqb, leb}
+use Rattle.std.specs.Prelude.{Bool, true, false, List, [], ◌∷◌, ◌++◌, ℕ, ◌/◌, length, drop, eqb, leb, Err}
 use Rattle.std.proofs.Math.Option.{Option, none, some}
-use Rattle.wire.specs.declared.Checked.{Checked}
-use Rattle.wire.specs.declared.Checked.TheVariants.{Good, Bad}
-use Rattle.desk.specs.declared.CompareAnswer.{CompareAnswer}
-use Rattle.desk.specs.declared.CompareAnswer.TheVariants.{Done, Short, Refused, OtherRefused}
+use Rattle.wire.specs.Checked.{Checked}
+use Rattle.wire.specs.Checked.{Good, Bad}
+use Rattle.desk.specs.CompareAnswer.{CompareAnswer}
+use Rattle.desk.specs.CompareAnswer.{Done, Short, Refused, OtherRefused}
 use Rattle.wire.specs.Tests.{pick, given, both}
 use Rattle.wire.specs.Shape.{Kind, Shape}
 use Rattle.wire.specs.Table.{check, shape_of}
@@ -137,7 +137,7 @@ compare_reads t one other r s = compare_runs t one other r.made r.ends s.made s.
 unfoldable pub compare_by : Checked → (table one other : List ℕ) → Answered
 compare_by (Good l) table one other =
     compare_reads (shape_of table l) one other (fit most_entries (read (shape_of table l) (front one))) (fit most_entries (read (shape_of table l) (front other)))
-compare_by (Bad why i) table one other = refuses (Refused why i)
+compare_by (Err r) table one other = refuses (Refused r.why r.place)
 
 unfoldable pub compares : (table one other : List ℕ) → Answered
 compares table one other = compare_by (check table) table one other

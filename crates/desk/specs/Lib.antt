@@ -8,3 +8,10 @@ pub mod Compact
 pub mod Listed
 pub mod Csv
 pub mod Cases
+pub mod FindAnswer
+pub mod CompareAnswer
+pub mod BatchWritten
+pub mod BatchChecked
+pub mod BatchFound
+pub mod OpenAnswer
+pub mod CsvAnswer

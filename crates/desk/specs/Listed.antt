@@ -1,10 +1,10 @@
 -- Reading with a lent list of open items (T-12): a list that is too short is refused before all else; else it is a reading.
 -- Assumes nothing.
-use Rattle.std.specs.Prelude.{◌≡◌, List, [], ℕ, length, drop, leb}
-use Rattle.wire.specs.declared.ReadAnswer.{ReadAnswer}
-use Rattle.wire.specs.declared.ReadAnswer.TheVariants.{Done as Read, Refused as NotRead}
-use Rattle.desk.specs.declared.OpenAnswer.{OpenAnswer}
-use Rattle.desk.specs.declared.OpenAnswer.TheVariants.{Done, Refused, ShortList}
+use Rattle.std.specs.Prelude.{◌≡◌, List, [], ℕ, length, drop, leb, Err, Ok}
+use Rattle.wire.specs.ReadAnswer.{ReadAnswer}
+use Rattle.wire.specs.ReadAnswer.{Done as Read, Refused as NotRead}
+use Rattle.desk.specs.OpenAnswer.{OpenAnswer}
+use Rattle.desk.specs.OpenAnswer.{Done, Refused, ShortList}
 use Rattle.wire.specs.Tests.{given}
 use Rattle.wire.specs.Reading.{Run}
 use Rattle.wire.specs.Answers.{Numbered, numbered, done, run_answer, store_with, zeroed}
@@ -15,8 +15,8 @@ list_words = 1024
 
 -- a reading's answer, as this call's
 unfoldable pub open_answer : ReadAnswer → OpenAnswer
-open_answer (Read p n) = Done p n
-open_answer (NotRead why p n) = Refused why p n
+open_answer (Ok r) = Done r.place r.count
+open_answer (Err r) = Refused r.why r.place r.count
 
 -- the answer of a run with a list of so many words
 unfoldable pub listed_answer : (words : ℕ) → Run → OpenAnswer
@@ -32,19 +32,19 @@ list_after list = given (leb list_words (length list)) (λ _. zeroed list_words 
 
 -- the answer's number and place
 unfoldable pub open_says : OpenAnswer → Numbered
-open_says (Done p n) = done p
+open_says (Ok r) = done r.place
 open_says (Refused why p n) = numbered why p
 open_says ShortList = record { number = 22; place = 0 }
 
 -- the entries made
 unfoldable pub open_count : OpenAnswer → ℕ
-open_count (Done p n) = n
+open_count (Ok r) = r.count
 open_count (Refused why p n) = n
 open_count ShortList = 0
 
 -- the unread bytes: none on a refusal
 unfoldable pub open_rest : List ℕ → OpenAnswer → List ℕ
-open_rest message (Done p n) = drop p message
+open_rest message (Ok r) = drop r.place message
 open_rest message (Refused why p n) = []
 open_rest message ShortList = []
 

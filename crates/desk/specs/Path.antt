@@ -1,12 +1,12 @@
 -- One item by its path (T-02): to which items a path leads, and the answer, said by what the full read made.
 -- Letters: t a shape, k its kind, i a child's position, e an entry, p a place, a and b an entry's words, x a spot, r a run, l a layout.
 -- Assumes nothing.
-use Rattle.std.specs.Prelude.{Bool, true, false, List, [], ◌∷◌, ℕ, zero, suc, ltb}
+use Rattle.std.specs.Prelude.{Bool, true, false, List, [], ◌∷◌, ℕ, zero, suc, ltb, Err, Ok}
 use Rattle.std.proofs.Math.Option.{Option, none, some}
-use Rattle.wire.specs.declared.Checked.{Checked}
-use Rattle.wire.specs.declared.Checked.TheVariants.{Good, Bad}
-use Rattle.desk.specs.declared.FindAnswer.{FindAnswer}
-use Rattle.desk.specs.declared.FindAnswer.TheVariants.{Found, NoItem, Absent, Refused}
+use Rattle.wire.specs.Checked.{Checked}
+use Rattle.wire.specs.Checked.{Good, Bad}
+use Rattle.desk.specs.FindAnswer.{FindAnswer}
+use Rattle.desk.specs.FindAnswer.{Found, NoItem, Absent, Refused}
 use Rattle.wire.specs.Tests.{pick, given}
 use Rattle.wire.specs.Shape.{unit, Kind, plain, pooled, option, sequence, map, struct, enum, same_kind, Shape, node, Shapes}
 use Rattle.wire.specs.Shape as shapes
@@ -99,7 +99,7 @@ find_of (some k) t path message = find_in t path (fit most_entries (read t (fron
 -- 1 and 2 come first
 unfoldable pub find_by : Checked → (table path message : List ℕ) → FindAnswer
 find_by (Good l) table path message = find_of (leads (shape_of table l) path) (shape_of table l) path message
-find_by (Bad why i) table path message = Refused why i
+find_by (Err r) table path message = Refused r.why r.place
 
 unfoldable pub finds : (table path message : List ℕ) → FindAnswer
 finds table path message = find_by (check table) table path message
@@ -108,20 +108,20 @@ finds table path message = find_by (check table) table path message
 
 -- the number and the place: that of the item, or the refusal's
 unfoldable pub find_says : FindAnswer → Numbered
-find_says (Found a b p) = done p
+find_says (Ok r) = done r.place
 find_says NoItem = record { number = 13; place = 0 }
 find_says (Absent p) = record { number = 14; place = p }
 find_says (Refused why p) = numbered why p
 
 -- the entry's words, 0 on a refusal
 unfoldable pub first_of : FindAnswer → ℕ
-first_of (Found a b p) = a
+first_of (Ok r) = r.first
 first_of NoItem = 0
 first_of (Absent p) = 0
 first_of (Refused why p) = 0
 
 unfoldable pub second_of : FindAnswer → ℕ
-second_of (Found a b p) = b
+second_of (Ok r) = r.second
 second_of NoItem = 0
 second_of (Absent p) = 0
 second_of (Refused why p) = 0

@@ -1,35 +1,60 @@
-// The answers of the questions that document 02 adds. It has no code: what they mean stands in specs/.
+// The answers of the questions that document 02 adds. What they mean stands in specs/.
 #![tactic(auto)]
 
-use wire::Refusal;
+ghost use Rattle.std.specs.Prelude.{◌≡◌};
+ghost use Rattle.desk.specs.declared.NotRows.TheVariants.{Refused as NotRowsAt};
+ghost use Rattle.desk.specs.declared.Fault.TheVariants.{Wire};
+ghost use Rattle.desk.specs.declared.NotFound.TheVariants.{Refused as NotFoundAt};
+ghost use Rattle.desk.specs.declared.NotCompared.TheVariants.{Refused as NotComparedAt};
 
-// What the question for one item by its path answers: its entry's words and its place, that the path leads to no such item,
-// the place of the first option on the path that is absent, or the reading's own refusal.
+use wire::{Refusal, RefusedAt};
+
+// An item that was found by its path: its entry's words, and its place.
 #[derive(Clone, Copy)]
-pub enum FindAnswer {
-    Found {
-        first: u64,
-        second: u64,
-        place: usize,
-    },
-    NoItem,
-    Absent {
-        place: usize,
-    },
-    Refused {
-        why: Refusal,
-        place: usize,
-    },
+pub struct Found {
+    pub first: u64,
+    pub second: u64,
+    pub place: usize,
 }
 
-// What the comparison of two messages answers: how many items differ, that the lent list is too short for them, or a refusal:
-// the table's or the first message's, or the second message's.
+// Why an item isn't found: the path leads to no such item, the first option on the path that is absent stands at a place, or the
+// reading's own refusal.
 #[derive(Clone, Copy)]
-pub enum CompareAnswer {
-    Done { count: usize },
+pub enum NotFound {
+    NoItem,
+    Absent { place: usize },
+    Refused { why: Refusal, place: usize },
+}
+
+impl From<RefusedAt> for NotFound {
+    ghost from_gives = { λ refused cause. cause ≡ NotFoundAt refused.why refused.place };
+
+    fn from(refused: RefusedAt) -> NotFound {
+        NotFound::Refused {
+            why: refused.why,
+            place: refused.place,
+        }
+    }
+}
+
+// Why two messages aren't compared: the lent list is too short for their pairs, or a refusal: the table's or the first message's, or
+// the second message's.
+#[derive(Clone, Copy)]
+pub enum NotCompared {
     Short,
     Refused { why: Refusal, place: usize },
     OtherRefused { why: Refusal, place: usize },
+}
+
+impl From<RefusedAt> for NotCompared {
+    ghost from_gives = { λ refused cause. cause ≡ NotComparedAt refused.why refused.place };
+
+    fn from(refused: RefusedAt) -> NotCompared {
+        NotCompared::Refused {
+            why: refused.why,
+            place: refused.place,
+        }
+    }
 }
 
 // A store and a product, by which a message is asked for.
@@ -56,34 +81,27 @@ pub enum Fault {
     Missing,
 }
 
-// How the writing of a batch ends: the bytes written, or why it is refused.
-#[derive(Clone, Copy)]
-pub enum BatchWritten {
-    Done { place: usize },
-    Refused { why: Fault },
+impl From<RefusedAt> for Fault {
+    ghost from_gives = { λ refused fault. fault ≡ Wire refused.why refused.place };
+
+    fn from(refused: RefusedAt) -> Fault {
+        Fault::Wire {
+            why: refused.why,
+            place: refused.place,
+        }
+    }
 }
 
-// What the whole check of a batch answers.
+// A part of a batch: where it starts, and its length.
 #[derive(Clone, Copy)]
-pub enum BatchChecked {
-    Good,
-    Bad { why: Fault },
+pub struct Part {
+    pub from: usize,
+    pub len: usize,
 }
 
-// Where the last message of a store and product stands, or why there is none.
+// Why a reading with a lent list of open items stops: as a reading does, or because the list is too short.
 #[derive(Clone, Copy)]
-pub enum BatchFound {
-    Part { from: usize, len: usize },
-    Refused { why: Fault },
-}
-
-// What a reading with a lent list of open items answers: what a reading does, or that the list is too short.
-#[derive(Clone, Copy)]
-pub enum OpenAnswer {
-    Done {
-        place: usize,
-        count: usize,
-    },
+pub enum NotOpened {
     Refused {
         why: Refusal,
         place: usize,
@@ -92,12 +110,23 @@ pub enum OpenAnswer {
     ShortList,
 }
 
-// How an export or an import ends: the bytes written; a refusal of the wire and its place; a table that has no rows; or the place
-// where an input stops being a row.
+// Why there is no export or import: a refusal of the wire and its place; a table that has no rows; or the place where an input
+// stops being a row.
 #[derive(Clone, Copy)]
-pub enum CsvAnswer {
-    Done { place: usize },
+pub enum NotRows {
     Refused { why: Refusal, place: usize },
     Unfit,
     NoRow { place: usize },
+}
+
+// A refusal of the wire is one of an export or an import.
+impl From<RefusedAt> for NotRows {
+    ghost from_gives = { λ r e. e ≡ NotRowsAt r.why r.place };
+
+    fn from(r: RefusedAt) -> NotRows {
+        NotRows::Refused {
+            why: r.why,
+            place: r.place,
+        }
+    }
 }

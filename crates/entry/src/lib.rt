@@ -1,7 +1,7 @@
 // An entry's words: how many there are, and where they stand in a value list or a store.
 #![tactic(auto)]
 
-ghost use Rattle.std.specs.Prelude.{◌≡◌, ◌*◌, ◌/◌, ◌%◌, ◌<◌, take, eqb};
+ghost use Rattle.std.specs.Prelude.{◌≡◌, ◌+◌, ◌*◌, ◌/◌, ◌%◌, ◌<◌, take, eqb, get_or};
 ghost use Rattle.wire.specs.Answers.{words_per, room_of};
 ghost use Rattle.entry.specs.Words.{first_at, second_at, place_at, with_entry};
 
@@ -21,21 +21,26 @@ pub fn whole(words: usize) -> bool
     words % WORDS == 0
 }
 
-// The words of the entry of a number.
+// A word of the entry of a number.
+fn word<const K: usize>(words: &[u64], at: usize) -> u64
+    requires { (at < room_of words.now) × (K < words_per) }
+    ensures { result ≡ get_or words.now (words_per * at + K) 0 }
+{
+    words[WORDS * at + K]
+}
+
 pub fn first(words: &[u64], at: usize) -> u64
     requires { at < room_of words.now }
     ensures { result ≡ first_at words.now at }
 {
-    let i = WORDS * at;
-    words[i]
+    word::<0>(words, at)
 }
 
 pub fn second(words: &[u64], at: usize) -> u64
     requires { at < room_of words.now }
     ensures { result ≡ second_at words.now at }
 {
-    let i = WORDS * at + 1;
-    words[i]
+    word::<1>(words, at)
 }
 
 // The place of the item's first byte.
@@ -43,8 +48,7 @@ pub fn place(words: &[u64], at: usize) -> u64
     requires { at < room_of words.now }
     ensures { result ≡ place_at words.now at }
 {
-    let i = WORDS * at + 2;
-    words[i]
+    word::<2>(words, at)
 }
 
 // Stores an item's entry at a number, where the store has words for it.

@@ -10,8 +10,8 @@ use lib.Seq.{sets, sets-eq, take-append_seam}
 use borrow.Author.Tests.{le-leb, lt-leb}
 use Rattle.wire.specs.declared.Refusal.TheVariants.{Full}
 use Rattle.wire.specs.Tests.{pick}
-use Rattle.desk.specs.declared.CsvAnswer.{CsvAnswer}
-use Rattle.desk.specs.declared.CsvAnswer.TheVariants.{Done, Refused}
+use Rattle.desk.specs.CsvAnswer.{CsvAnswer}
+use Rattle.desk.specs.CsvAnswer.{Done, Refused}
 use Rattle.desk.specs.Csv.{Output, refusal, within, csv_answer, out_after}
 use Rattle.output.specs.Bytes.{cap, Puts}
 use Rattle.output.proofs.Counting.{cap-above, cap-within}

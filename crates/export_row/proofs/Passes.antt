@@ -7,11 +7,11 @@ use native.Mathlib.Omega.{arith}
 use lib.ListN.{length, take}
 use Rattle.wire.specs.declared.Refusal.{Refusal}
 use Rattle.wire.specs.declared.Refusal.TheVariants.{Full}
-use Rattle.desk.specs.declared.CsvAnswer.TheVariants.{Done, Refused}
+use Rattle.desk.specs.CsvAnswer.{Done, Refused}
 use Rattle.desk.specs.Csv.{within}
 use Rattle.output.specs.Bytes.{Puts}
-use Rattle.put_row.specs.declared.Row.{Row}
-use Rattle.put_row.specs.declared.Row.TheVariants as row
+use Rattle.put_row.specs.Row.{Row}
+use Rattle.put_row.specs.Row as row
 use Rattle.put_row.specs.Rows.{Told, spells, stops, LaysRow, laid, refused}
 use Rattle.put_row.proofs.Telling.{is-laid, is-refused}
 use Rattle.export_row.specs.Outputs.{Gives, told_output}

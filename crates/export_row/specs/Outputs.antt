@@ -1,8 +1,8 @@
 -- An answer and a lent output that are those of an export or of an import; and what a row that was told gives.
 -- Assumes nothing.
 use Rattle.std.specs.Prelude.{◌≡◌, List, ℕ}
-use Rattle.desk.specs.declared.CsvAnswer.{CsvAnswer}
-use Rattle.desk.specs.declared.CsvAnswer.TheVariants.{Refused}
+use Rattle.desk.specs.CsvAnswer.{CsvAnswer}
+use Rattle.desk.specs.CsvAnswer.{Refused}
 use Rattle.desk.specs.Csv.{Output, refusal, within, csv_answer, out_after}
 use Rattle.put_row.specs.Rows.{Told, spells, stops}
 

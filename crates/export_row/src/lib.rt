@@ -2,13 +2,13 @@
 // copied; a second pass writes only what is longer than that room.
 #![tactic(auto)]
 
-ghost use Rattle.std.specs.Prelude.{true, length};
+ghost use Rattle.std.specs.Prelude.{true, ◌≤◌, length};
 ghost use Rattle.columns.specs.Columns.{field_shapes, Rowed};
 ghost use Rattle.put_row.specs.Rows.{fields_from};
 ghost use Rattle.export_row.specs.Outputs.{Gives, told_output};
 
-use desk::CsvAnswer;
-use put_row::Row;
+use columns::Columns;
+use desk::NotRows;
 use wire::{Layout, Refusal};
 
 // The room for the row of few fields that are short, which is soon cleared, and of others.
@@ -18,85 +18,62 @@ const LONG: usize = 8192;
 
 const FEW: usize = 12;
 
-// The row of a message whose fields' numbers, so many, stand at `from` in the table, kept in a room on its way.
+// The row of a message whose fields' numbers stand in the table, kept in a room on its way.
 fn export_kept(
     table: &[u8],
     l: Layout,
-    from: usize,
-    width: usize,
+    fields: Columns,
     message: &[u8],
     kept: &mut [u8],
     out: &mut [u8],
-) -> CsvAnswer
-    requires { Rowed table.now l from width }
-    ensures { Gives (told_output (length out.old) (fields_from message.now true (field_shapes table.now l from width) 0)) out.old result out.new }
+) -> Result<usize, NotRows>
+    requires { Rowed table.now l fields.from fields.width }
+    ensures { Gives (told_output (length out.old) (fields_from message.now true (field_shapes table.now l fields.from fields.width) 0)) out.old result out.new }
 {
-    let got = put_row::put_row(table, l, from, width, message, kept);
-    match got {
-        Row::Refused { why, place } => CsvAnswer::Refused { why, place },
-        Row::Laid { place: _, len } => {
-            if out.len() < len {
-                return CsvAnswer::Refused {
-                    why: Refusal::Full,
-                    place: 0,
-                };
-            }
-            if len <= kept.len() {
-                output::put_bytes(&kept[..len], out, 0);
-                return CsvAnswer::Done { place: len };
-            }
-            put_row::put_row(table, l, from, width, message, out);
-            CsvAnswer::Done { place: len }
-        }
+    let laid = put_row::put_row(table, l, fields, message, kept)?;
+    if out.len() < laid.len {
+        return Err(NotRows::Refused {
+            why: Refusal::Full,
+            place: 0,
+        });
     }
+    if laid.len <= kept.len() {
+        output::put_bytes(&kept[..laid.len], out, 0);
+        return Ok(laid.len);
+    }
+    put_row::put_row(table, l, fields, message, out)?;
+    Ok(laid.len)
 }
 
-fn export_few(
+// The same in a room of so many bytes.
+fn export_in<const ROOM: usize>(
     table: &[u8],
     l: Layout,
-    from: usize,
-    width: usize,
+    fields: Columns,
     message: &[u8],
     out: &mut [u8],
-) -> CsvAnswer
-    requires { Rowed table.now l from width }
-    ensures { Gives (told_output (length out.old) (fields_from message.now true (field_shapes table.now l from width) 0)) out.old result out.new }
+) -> Result<usize, NotRows>
+    requires rows { Rowed table.now l fields.from fields.width }
+    requires small { ROOM ≤ 8192 }
+    ensures { Gives (told_output (length out.old) (fields_from message.now true (field_shapes table.now l fields.from fields.width) 0)) out.old result out.new }
 {
-    let mut kept: [u8; SHORT] = [0; SHORT];
-    export_kept(table, l, from, width, message, &mut kept, out)
+    let mut kept = [0; ROOM];
+    export_kept(table, l, fields, message, &mut kept, out)
 }
 
-fn export_many(
-    table: &[u8],
-    l: Layout,
-    from: usize,
-    width: usize,
-    message: &[u8],
-    out: &mut [u8],
-) -> CsvAnswer
-    requires { Rowed table.now l from width }
-    ensures { Gives (told_output (length out.old) (fields_from message.now true (field_shapes table.now l from width) 0)) out.old result out.new }
-{
-    let mut kept: [u8; LONG] = [0; LONG];
-    export_kept(table, l, from, width, message, &mut kept, out)
-}
-
-// The row of a message whose fields' numbers, so many, stand at `from` in the table.
+// The row of a message whose fields' numbers stand in the table.
 pub fn export_row(
     table: &[u8],
     l: Layout,
-    from: usize,
-    width: usize,
+    fields: Columns,
     message: &[u8],
     out: &mut [u8],
-) -> CsvAnswer
-    requires { Rowed table.now l from width }
-    ensures { Gives (told_output (length out.old) (fields_from message.now true (field_shapes table.now l from width) 0)) out.old result out.new }
+) -> Result<usize, NotRows>
+    requires { Rowed table.now l fields.from fields.width }
+    ensures { Gives (told_output (length out.old) (fields_from message.now true (field_shapes table.now l fields.from fields.width) 0)) out.old result out.new }
 {
-    if width <= FEW {
-        if message.len() <= SHORT {
-            return export_few(table, l, from, width, message, out);
-        }
+    if fields.width <= FEW && message.len() <= SHORT {
+        return export_in::<SHORT>(table, l, fields, message, out);
     }
-    export_many(table, l, from, width, message, out)
+    export_in::<LONG>(table, l, fields, message, out)
 }

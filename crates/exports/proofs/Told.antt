@@ -4,21 +4,21 @@ use mathlib.Core.Path.{◌≡◌, refl, ◌∙◌}
 use mathlib.Core.List.{List}
 use Prim.Native.Nat.{ℕ}
 use lib.ListN.{length}
-use Rattle.wire.specs.declared.ReadAnswer.{ReadAnswer}
-use Rattle.wire.specs.declared.WriteAnswer.{WriteAnswer}
-use Rattle.wire.specs.declared.AskAnswer.{AskAnswer}
+use Rattle.wire.specs.ReadAnswer.{ReadAnswer}
+use Rattle.wire.specs.WriteAnswer.{WriteAnswer}
+use Rattle.wire.specs.AskAnswer.{AskAnswer}
 use Rattle.wire.specs.Reading.{Run, Outcome, reached, refused}
 use Rattle.wire.specs.Answers.{write_says, read_answer, Form, asks}
 use Rattle.laws.specs.Answered.{Reads, Writes, Asks}
-use Rattle.desk.specs.declared.OpenAnswer.{OpenAnswer}
+use Rattle.desk.specs.OpenAnswer.{OpenAnswer}
 use Rattle.desk.specs.Listed.{ReadsListed}
-use Rattle.desk.specs.declared.CompareAnswer.{CompareAnswer}
+use Rattle.desk.specs.CompareAnswer.{CompareAnswer}
 use Rattle.desk.specs.Differ.{Answered}
 use Rattle.compare.specs.Promise.{Compares}
-use Rattle.desk.specs.declared.BatchWritten.{BatchWritten}
+use Rattle.desk.specs.BatchWritten.{BatchWritten}
 use Rattle.desk.specs.Batch.{Or, written_says}
 use Rattle.batch.specs.Writing as batch
-use Rattle.desk.specs.declared.CsvAnswer.{CsvAnswer}
+use Rattle.desk.specs.CsvAnswer.{CsvAnswer}
 use Rattle.desk.specs.Csv.{Output, csv_says}
 use Rattle.export_row.specs.Outputs.{Gives}
 use Rattle.csv_rows.specs.Promise.{GivesImport}

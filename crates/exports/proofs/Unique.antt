@@ -4,7 +4,7 @@
 use mathlib.Core.Path.{◌≡◌, sym, ap, subst, ◌∙◌}
 use native.Mathlib.Omega.{arith}
 use lib.ListN.{length, length-drop}
-use Rattle.desk.specs.declared.BatchFound.{BatchFound}
+use Rattle.desk.specs.BatchFound.{BatchFound}
 use Rattle.desk.specs.Batch.{found_says, from_of, len_of}
 use Rattle.batches.proofs.Search.{searched-is-last}
 use Rattle.spellings.proofs.Trips.{imports-exactly}

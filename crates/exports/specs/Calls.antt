@@ -2,14 +2,14 @@
 -- answer alone stands in telling's specs/Told.antt.
 -- Assumes nothing.
 use Rattle.std.specs.Prelude.{◌≡◌, List, ℕ, ◌≤◌, length, drop}
-use Rattle.wire.specs.declared.AskAnswer.{AskAnswer}
+use Rattle.wire.specs.AskAnswer.{AskAnswer}
 use Rattle.wire.specs.Reading.{Run}
 use Rattle.wire.specs.Answers.{feed_number, read_says, write_says, store_with, read_answer, Form, write_answer, out_with, area_after}
 use Rattle.accumulator.specs.Feeding.{Lent, MarkedLent}
 use Rattle.desk.specs.Listed.{open_says, open_count, listed_answer, listed_store}
 use Rattle.desk.specs.Listed as listed
 use Rattle.desk.specs.Differ.{Answered, compare_answer, list_after}
-use Rattle.desk.specs.declared.BatchFound.{BatchFound}
+use Rattle.desk.specs.BatchFound.{BatchFound}
 use Rattle.desk.specs.Batch.{Or, written_answer, written_says}
 use Rattle.desk.specs.Batch as batches
 use Rattle.desk.specs.Csv.{Output, Imports, csv_answer, csv_says, out_after}

@@ -2,15 +2,15 @@
 -- search in a batch has none where the batch passes the whole check.
 -- Assumes nothing.
 use Rattle.std.specs.Prelude.{◌≡◌, List, ℕ}
-use Rattle.wire.specs.declared.AskAnswer.{AskAnswer}
-use Rattle.wire.specs.declared.TakeAnswer.{TakeAnswer}
+use Rattle.wire.specs.AskAnswer.{AskAnswer}
+use Rattle.wire.specs.TakeAnswer.{TakeAnswer}
 use Rattle.wire.specs.Reading.{Run}
 use Rattle.wire.specs.Answers.{Numbered, Form}
 use Rattle.laws.specs.Unique.{Unique}
 use Rattle.accumulator.specs.Feeding.{Lent}
-use Rattle.desk.specs.declared.FindAnswer.{FindAnswer}
+use Rattle.desk.specs.FindAnswer.{FindAnswer}
 use Rattle.desk.specs.Differ.{Answered}
-use Rattle.desk.specs.declared.BatchChecked.TheVariants.{Good}
+use Rattle.desk.specs.BatchChecked.{Good}
 use Rattle.desk.specs.Batch.{Or, batch_check}
 use Rattle.desk.specs.Csv.{Output}
 use Rattle.telling.specs.Told.{Told, Took, Found}

@@ -13,14 +13,21 @@ use Rattle.wire.specs.Reading.{front}
 use Rattle.laws.specs.Tables.{node_kind, node_child, node_shape, GoodTable}
 use Rattle.laws.proofs.Parts.{tail, next}
 use Rattle.read_item.specs.Steps.{spot}
-use Rattle.desk.specs.declared.FindAnswer.{FindAnswer}
+use Rattle.std.specs.Prelude.{Err}
+use Rattle.desk.specs.declared.NotFound.{NotFound}
 use Rattle.desk.specs.Path.{is_field, most_entries, leads}
 use Rattle.along.specs.Seek.{seek}
 use Rattle.find.specs.declared.Passed.{Passed}
-use Rattle.find.specs.declared.Passed.TheVariants.{In, Out}
+use Rattle.find.specs.PassAnswer.{PassAnswer, In, Out}
 use Rattle.find.specs.Steps.{is_some, Inward, seek_node, Passes, Arrives}
 use Rattle.find.specs.Steps as steps
 use Rattle.find.proofs.Leading.{Leading, lead-start, lead-next, lead-inward, lead-rest, lead-end}
+
+-- two answers that are one have the same parts
+same-in : {c c' q q' m m' : ℕ} → In c q m ≡ In c' q' m' → (c ≡ c') × (q ≡ q') × (m ≡ m')
+same-in {c} {c'} {q} {q'} {m} {m'} h =
+    let same : ◌≡◌ {A = Passed} (record { node = c; place = q; made = m }) (record { node = c'; place = q'; made = m' }) = cc in
+    (ap (λ r. r.node) same, ap (λ r. r.place) same, ap (λ r. r.made) same)
 
 -- i positions on, the way stands at a node and at a place of the message, with so many entries made
 pub record Going (s : List ℕ) (l : Layout) (path message : List ℕ) (node i : ℕ) (rest : List ℕ) (at made : ℕ) : Type 0 where
@@ -48,31 +55,29 @@ module _ {s : List ℕ} {l : Layout} (g : GoodTable s l) (path message : List �
       go-inward more = lead-inward g path going.leading more leads-there
 
       -- the path's next position was passed
-      module _ (more : i < length path) {r : Passed}
+      module _ (more : i < length path) {r : PassAnswer}
           (passed : Passes s l (node_child s l node (node_at s (record_of l node)) (get_or path i 0)) rest at (seek_node s l node (get_or path i 0) (most_entries - made) (spot rest at)) r) where
         here : seek_node s l node (get_or path i 0) (most_entries - made) (spot rest at) (drop (i + 1) path) ≡ seek (shape_of s l) path most_entries (front message)
         unfolding seek_node
         here = ap (λ p. seek (node_shape s l node) p (most_entries - made) (spot rest at)) (sym (next path i more)) ∙ going.same
 
-        pub go-out : {answer : FindAnswer} → r ≡ Out answer → Arrives s l path message r
-        go-out {answer} = turn passed
+        pub go-out : {cause : NotFound} → r ≡ Out cause → Arrives s l path message r
+        go-out {cause} = turn passed
           where
-            turn : {r : Passed} → Passes s l (node_child s l node (node_at s (record_of l node)) (get_or path i 0)) rest at (seek_node s l node (get_or path i 0) (most_entries - made) (spot rest at)) r
-                → r ≡ Out answer → Arrives s l path message r
-            turn (steps.outside {answer = a} e) q = steps.Arrives.outside (sym here ∙ e (drop (i + 1) path))
+            turn : {r : PassAnswer} → Passes s l (node_child s l node (node_at s (record_of l node)) (get_or path i 0)) rest at (seek_node s l node (get_or path i 0) (most_entries - made) (spot rest at)) r
+                → r ≡ Out cause → Arrives s l path message r
+            turn (steps.outside e) q = steps.Arrives.outside (sym here ∙ e (drop (i + 1) path))
             turn (steps.inside up fits e) q = let z : ◌≡◌ {A = ℕ} 0 1 = cc in absurd (omega arith)
 
         pub go-in : {c q m : ℕ} → r ≡ In c q m
             → (at ≤ q) × (q - at ≤ length rest) × Going s l path message c (i + 1) (take (length rest - (q - at)) (drop (q - at) rest)) q m
         go-in {c} {q} {m} = turn passed
           where
-            turn : {r : Passed} → Passes s l (node_child s l node (node_at s (record_of l node)) (get_or path i 0)) rest at (seek_node s l node (get_or path i 0) (most_entries - made) (spot rest at)) r
+            turn : {r : PassAnswer} → Passes s l (node_child s l node (node_at s (record_of l node)) (get_or path i 0)) rest at (seek_node s l node (get_or path i 0) (most_entries - made) (spot rest at)) r
                 → r ≡ In c q m → (at ≤ q) × (q - at ≤ length rest) × Going s l path message c (i + 1) (take (length rest - (q - at)) (drop (q - at) rest)) q m
             turn (steps.outside e) h = let z : ◌≡◌ {A = ℕ} 0 1 = cc in absurd (omega arith)
-            turn (steps.inside {q = q'} {m = m'} up fits e) h =
-                let child : node_child s l node (node_at s (record_of l node)) (get_or path i 0) ≡ c = cc in
-                let place : q' ≡ q = cc in
-                let count : m' ≡ m = cc in
+            turn (steps.inside up fits e) h =
+                let (child, place, count) = same-in h in
                 let inward = go-inward more in
                 let far : at + (q - at) ≡ q = omega arith in (
                   omega arith,
@@ -92,12 +97,12 @@ module _ {s : List ℕ} {l : Layout} (g : GoodTable s l) (path message : List �
 
 -- ---- the item at its end
 
-module _ {s : List ℕ} {l : Layout} {path message : List ℕ} {r : Passed} (arrived : Arrives s l path message r) where
-  pub end-out : {answer : FindAnswer} → r ≡ Out answer → answer ≡ seek (shape_of s l) path most_entries (front message)
-  end-out {answer} = turn arrived
+module _ {s : List ℕ} {l : Layout} {path message : List ℕ} {r : PassAnswer} (arrived : Arrives s l path message r) where
+  pub end-out : {cause : NotFound} → r ≡ Out cause → Err cause ≡ seek (shape_of s l) path most_entries (front message)
+  end-out {cause} = turn arrived
     where
-      turn : {r : Passed} → Arrives s l path message r → r ≡ Out answer → answer ≡ seek (shape_of s l) path most_entries (front message)
-      turn (steps.Arrives.outside {answer = a} e) q = let same : a ≡ answer = cc in sym (e ∙ same)
+      turn : {r : PassAnswer} → Arrives s l path message r → r ≡ Out cause → Err cause ≡ seek (shape_of s l) path most_entries (front message)
+      turn (steps.Arrives.outside {cause = other} e) q = let same : other ≡ cause = cc in sym (e ∙ ap Err same)
       turn (steps.Arrives.inside b f h e) q = let z : ◌≡◌ {A = ℕ} 0 1 = cc in absurd (omega arith)
 
   -- where it stands
@@ -110,12 +115,10 @@ module _ {s : List ℕ} {l : Layout} {path message : List ℕ} {r : Passed} (arr
   pub end-in : {c q m : ℕ} → r ≡ In c q m → Stands c q m
   end-in {c} {q} {m} = turn arrived
     where
-      turn : {r : Passed} → Arrives s l path message r → r ≡ In c q m → Stands c q m
+      turn : {r : PassAnswer} → Arrives s l path message r → r ≡ In c q m → Stands c q m
       turn (steps.Arrives.outside e) h = let z : ◌≡◌ {A = ℕ} 0 1 = cc in absurd (omega arith)
-      turn (steps.Arrives.inside {c = c'} {q = q'} {m = m'} b f w e) h =
-          let node : c' ≡ c = cc in
-          let place : q' ≡ q = cc in
-          let count : m' ≡ m = cc in
+      turn (steps.Arrives.inside b f w e) h =
+          let (node, place, count) = same-in h in
           record {
             below = rw node at b;
             field = rw node at f;

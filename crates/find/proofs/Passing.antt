@@ -8,7 +8,7 @@ use native.Mathlib.Omega.{arith}
 use lib.ListN.{get_or-eq_default}
 use lib.Dec.{ltb}
 use Rattle.wire.specs.declared.Refusal.TheVariants.{BadOption}
-use Rattle.wire.specs.declared.Item.{Item}
+use Rattle.wire.specs.Item.{Item}
 use Rattle.wire.specs.Tests.{pick, decided}
 use Rattle.wire.specs.Shape.{unit, plain, same_kind}
 use Rattle.wire.specs.Table.{kinds, kind_of, Node}

@@ -7,13 +7,13 @@ use mathlib.Core.Option.{Option, none, some}
 use Prim.Native.Nat.{ℕ}
 use Rattle.wire.specs.declared.Refusal.{Refusal}
 use Rattle.wire.specs.declared.Layout.{Layout}
-use Rattle.wire.specs.declared.Checked.TheVariants.{Good, Bad}
+use Rattle.wire.specs.Checked.{Good, Bad}
 use Rattle.wire.specs.Shape.{Kind}
 use Rattle.wire.specs.Table.{check, shape_of}
 use Rattle.wire.specs.Reading.{front}
 use Rattle.laws.proofs.Splits.{not-both}
 use Rattle.laws.proofs.Unique.{by-equation}
-use Rattle.desk.specs.declared.FindAnswer.TheVariants.{NoItem, Refused}
+use Rattle.desk.specs.FindAnswer.{NoItem, Refused}
 use Rattle.desk.specs.Path.{leads, most_entries, find_of, find_by, finds}
 use Rattle.along.specs.Seek.{seek}
 use Rattle.along.proofs.Found.{seeks-found}

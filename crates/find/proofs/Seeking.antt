@@ -11,11 +11,11 @@ use lib.Seq.{drop-drop}
 use Rattle.wire.specs.declared.Refusal.{Refusal}
 use Rattle.wire.specs.declared.Refusal.TheVariants.{Room}
 use Rattle.wire.specs.declared.Own.{Own}
-use Rattle.wire.specs.declared.Item.{Item}
-use Rattle.wire.specs.declared.Item.TheVariants.{Took, Refused as NotTaken}
+use Rattle.wire.specs.Item.{Item}
+use Rattle.wire.specs.Item.{Took, Refused as NotTaken}
 use Rattle.wire.specs.declared.Layout.{Layout}
-use Rattle.wire.specs.declared.ReadAnswer.{ReadAnswer}
-use Rattle.wire.specs.declared.ReadAnswer.TheVariants.{Done, Refused as NotRead}
+use Rattle.wire.specs.ReadAnswer.{ReadAnswer}
+use Rattle.wire.specs.ReadAnswer.{Done, Refused as NotRead}
 use Rattle.wire.specs.Tests.{given}
 use Rattle.wire.specs.Walk.{all, walk, walks}
 use Rattle.wire.specs.Table.{u16_at, kind_of, Node, node_at, record_of, shapes_at}
@@ -37,12 +37,12 @@ use Rattle.read_item.proofs.Entering.{number_small}
 use Rattle.read_item.proofs.Heads.{head-leaf}
 use Rattle.reader.specs.Steps.{answer_behind}
 use Rattle.reader.proofs.Turns.{from, row-steady, said-refused, said-done}
-use Rattle.desk.specs.declared.FindAnswer.{FindAnswer}
-use Rattle.desk.specs.declared.FindAnswer.TheVariants.{Found, Absent, Refused}
+use Rattle.desk.specs.FindAnswer.{FindAnswer}
+use Rattle.desk.specs.FindAnswer.{Found, Absent, Refused}
 use Rattle.desk.specs.Path.{is_field, most_entries, is_there}
 use Rattle.along.specs.Seek.{seek_on, seek_item, seek, seek_at}
-use Rattle.find.specs.declared.Passed.{Passed}
-use Rattle.find.specs.declared.Passed.TheVariants.{In, Out}
+use Rattle.desk.specs.declared.NotFound.TheVariants.{Absent as Left, Refused as Not}
+use Rattle.find.specs.PassAnswer.{PassAnswer, In, Out}
 use Rattle.find.specs.Steps.{Inward, Owns, seek_node, seek_behind, Passes, inside, outside}
 use Rattle.find.proofs.Passing.{field-outer}
 
@@ -88,10 +88,10 @@ module _ (s : List ℕ) (l : Layout) (at which : ℕ) (bs : List ℕ) (p m : ℕ
   abbrev whole : List ℕ → FindAnswer
   whole = seek_behind s l at which (most_entries - m) (spot bs p)
 
-  pub skimmed-refused : {e : Refusal} {q n : ℕ} → a ≡ NotRead e q n → Passes s l (u16_at s (at + 2 * which)) bs p whole (Out (Refused e q))
+  pub skimmed-refused : {e : Refusal} {q n : ℕ} → a ≡ NotRead e q n → Passes s l (u16_at s (at + 2 * which)) bs p whole (Out (Not e q))
   unfolding seek_behind
   skimmed-refused {e} {q} h =
-      outside {answer = Refused e q} (λ rest. rw (said-refused (row_step (reading head) s l at which) (row-steady head-sound s l at which) bs p (most_entries - m) m said h) (unfold seek_on in refl))
+      outside {cause = Not e q} (λ rest. rw (said-refused (row_step (reading head) s l at which) (row-steady head-sound s l at which) bs p (most_entries - m) m said h) (unfold seek_on in refl))
 
   pub skimmed-on : {c q n : ℕ} → a ≡ Done q n → c ≡ u16_at s (at + 2 * which) → Passes s l (u16_at s (at + 2 * which)) bs p whole (In c q n)
   unfolding seek_behind
@@ -112,9 +112,9 @@ module _ (s : List ℕ) (l : Layout) (at : ℕ) (bs : List ℕ) (p m : ℕ) wher
   skimmed-none {which} {c} z e = rw z (skimmed-on s l at 0 bs p m refl none_said (e ∙ ap (u16_at s) (sym (add-zero at))))
 
 -- a step that began u bytes on
-pub passes-behind : {s : List ℕ} {l : Layout} {c : ℕ} (bs : List ℕ) (p u : ℕ) (whole here : List ℕ → FindAnswer) {r : Passed} → u ≤ length bs
+pub passes-behind : {s : List ℕ} {l : Layout} {c : ℕ} (bs : List ℕ) (p u : ℕ) (whole here : List ℕ → FindAnswer) {r : PassAnswer} → u ≤ length bs
     → ((rest : List ℕ) → here rest ≡ whole rest) → Passes s l c (take (length bs - u) (drop u bs)) (p + u) whole r → Passes s l c bs p here r
-passes-behind {s} {l} {c} bs p u whole here h same (outside {answer} e) = outside (λ rest. same rest ∙ e rest)
+passes-behind {s} {l} {c} bs p u whole here h same (outside e) = outside (λ rest. same rest ∙ e rest)
 passes-behind {s} {l} {c} bs p u whole here h same (inside {q} {m} up fits e) =
     let there : u + (q - (p + u)) ≡ q - p = omega arith in
     inside {q = q} {m = m} (omega arith) (omega (arith, length-tail bs u, fits, h, up))
@@ -128,7 +128,7 @@ pub record Goes (s : List ℕ) (l : Layout) (i which : ℕ) (bs : List ℕ) (p m
   pub bytes : used ≤ length bs
   pub falls : Falls s (node_first l i (node_at s (record_of l i))) (which + 1) i
   pub absent : is_there (node_kind (node_at s (record_of l i))) a ≡ false
-      → Passes s l (node_child s l i (node_at s (record_of l i)) which) bs p (seek_node s l i which (most_entries - m) (spot bs p)) (Out (Absent p))
+      → Passes s l (node_child s l i (node_at s (record_of l i)) which) bs p (seek_node s l i which (most_entries - m) (spot bs p)) (Out (Left p))
   pub rest : is_there (node_kind (node_at s (record_of l i))) a ≡ true → (path : List ℕ) → seek_node s l i which (most_entries - m) (spot bs p) path
       ≡ seek_behind s l (node_first l i (node_at s (record_of l i))) which (most_entries - (m + 1)) (spot (take (length bs - used) (drop used bs)) (p + used)) path
 
@@ -149,8 +149,8 @@ module _ {s : List ℕ} {l : Layout} {i : ℕ} (g : GoodTable s l) (below : i < 
     pub no_room : (path : List ℕ) → most_entries ≤ m → seek (node_shape s l i) path (most_entries - m) (spot bs p) ≡ Refused Room p
     no_room path full = let none_left : most_entries - m ≡ 0 = omega arith in rw none_left (seek-none path (spot bs p))
 
-    pub pass-full : (which : ℕ) → most_entries ≤ m → Passes s l (node_child s l i r which) bs p (seek_node s l i which (most_entries - m) (spot bs p)) (Out (Refused Room p))
-    pass-full which full = outside {answer = Refused Room p} (λ rest. unfold seek_node in no_room (which ∷ rest) full)
+    pub pass-full : (which : ℕ) → most_entries ≤ m → Passes s l (node_child s l i r which) bs p (seek_node s l i which (most_entries - m) (spot bs p)) (Out (Not Room p))
+    pass-full which full = outside {cause = Not Room p} (λ rest. unfold seek_node in no_room (which ∷ rest) full)
 
     module _ (some : m < most_entries) where
       with-room : (path : List ℕ) {own : Item} → own_of head r (spot bs p) ≡ own
@@ -177,8 +177,8 @@ module _ {s : List ℕ} {l : Layout} {i : ℕ} (g : GoodTable s l) (below : i < 
         abbrev here : List ℕ → FindAnswer
         here = seek_node s l i which (most_entries - m) (spot bs p)
 
-        own-refused : {why : Refusal} → own_of head r (spot bs p) ≡ NotTaken why → Passes s l c bs p here (Out (Refused why p))
-        own-refused {why} q = outside {answer = Refused why p} (λ rest. unfold seek_node in (with-room (which ∷ rest) q ∙ (unfold seek_item in refl)))
+        own-refused : {why : Refusal} → own_of head r (spot bs p) ≡ NotTaken why → Passes s l c bs p here (Out (Not why p))
+        own-refused {why} q = outside {cause = Not why p} (λ rest. unfold seek_node in (with-room (which ∷ rest) q ∙ (unfold seek_item in refl)))
 
         own-goes : (own : Own) → own_of head r (spot bs p) ≡ Took own → Goes s l i which bs p m own.first own.used
         own-goes own q =
@@ -186,7 +186,7 @@ module _ {s : List ℕ} {l : Layout} {i : ℕ} (g : GoodTable s l) (below : i < 
             record {
               bytes = ends (unfold own_of in (rw q at (head-fits (node_kind r) (node_count r) p bs)));
               falls = record { inside = omega (arith, n.inside, inward.there); below = λ j h. n.below j (omega (arith, inward.there)) };
-              absent = λ z. outside {answer = Absent p} (λ path. took path ∙ rw z (unfold given in refl));
+              absent = λ z. outside {cause = Left p} (λ path. took path ∙ rw z (unfold given in refl));
               rest = λ z path. took path ∙ rw z (unfold given in (at_once s l path (node_first l i r) (node_count r) which (most_entries - (m + 1)) (past own.used (spot bs p)) inward.there ∙ (unfold past in rw (tail bs own.used))));
             }
           where
@@ -202,7 +202,7 @@ module _ {s : List ℕ} {l : Layout} {i : ℕ} (g : GoodTable s l) (below : i < 
           unfolding own_of
           own-passed = sym (owns (node_count r) p ∙ ap (λ q. head (kind_of q) (node_count r) p bs) is)
 
-          pub pass-refused : {why : Refusal} → got ≡ NotTaken why → Passes s l c bs p here (Out (Refused why p))
+          pub pass-refused : {why : Refusal} → got ≡ NotTaken why → Passes s l c bs p here (Out (Not why p))
           pass-refused q = own-refused (own-passed ∙ q)
 
           pub pass-goes : {own : Own} → got ≡ Took own → Goes s l i which bs p m own.first own.used

@@ -2,7 +2,7 @@
 -- Assumes nothing.
 use Rattle.std.specs.Prelude.{◌≡◌, List, ℕ}
 use Rattle.laws.specs.Unique.{Unique}
-use Rattle.desk.specs.declared.FindAnswer.{FindAnswer}
+use Rattle.desk.specs.FindAnswer.{FindAnswer}
 use Rattle.desk.specs.Path.{finds}
 
 -- One answer meets the contract of `find`.

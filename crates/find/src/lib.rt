@@ -11,23 +11,18 @@ ghost use Rattle.desk.specs.Path.{is_field, is_passed, is_there, most_entries, l
 ghost use Rattle.along.specs.Seek.{seek as seek_of};
 ghost use Rattle.find.specs.Steps.{is_some, Inward, Owns, seek_behind, seek_node, Passes, Arrives};
 
-use desk::FindAnswer;
-use wire::{Checked, Item, Layout, Own, ReadAnswer, Refusal};
+use desk::{Found, NotFound};
+use wire::{Layout, Own, Refusal};
 
 // Every message is read as with a store of so many entries.
 const ROOM: usize = 16384;
 
-// A step along the path: into a child, at a place, with so many entries made; or the answer.
+// Where the way along a path stands: a node, the place of its item, and how many entries are made.
 #[derive(Clone, Copy)]
-enum Passed {
-    In {
-        node: usize,
-        place: usize,
-        made: usize,
-    },
-    Out {
-        answer: FindAnswer,
-    },
+struct Passed {
+    node: usize,
+    place: usize,
+    made: usize,
 }
 
 // ---- where a path leads
@@ -36,22 +31,14 @@ enum Passed {
 fn is_field(number: u8) -> bool
     ensures { result ≡ is_field (kind_of number) }
 {
-    match number {
-        0..=13 => true,
-        20..=31 => true,
-        _ => false,
-    }
+    matches!(number, 0..=13 | 20..=31)
 }
 
 // A kind that a path goes through: an option or a struct.
 fn is_passed(number: u8) -> bool
     ensures { result ≡ is_passed (kind_of number) }
 {
-    match number {
-        15 => true,
-        18 => true,
-        _ => false,
-    }
+    number == 15 || number == 18
 }
 
 // The child of a node at a position.
@@ -71,19 +58,16 @@ fn leads(table: &[u8], l: Layout, path: &[u64]) -> bool
     ensures { result ≡ is_some (leads_of (shape_of table.now l) path.now) }
 {
     let mut node = l.root;
-    let mut i = 0;
-    while i < path.len() {
+    for which in path {
         let number = table::kind_at(table, l, node);
         if !is_passed(number) {
             return false;
         }
         let width = table::child_count(table, l, node);
-        let which = path[i];
-        if width as u64 <= which {
+        if width as u64 <= *which {
             return false;
         }
-        node = child_at(table, l, node, which as usize);
-        i = i + 1;
+        node = child_at(table, l, node, *which as usize);
     }
     let last = table::kind_at(table, l, node);
     is_field(last)
@@ -95,59 +79,53 @@ fn leads(table: &[u8], l: Layout, path: &[u64]) -> bool
 fn skim_front(
     table: &[u8],
     l: Layout,
-    node: usize,
     from: usize,
     which: usize,
     part: &[u8],
-    place: usize,
-    made: usize,
-) -> Passed
+    at: Passed,
+) -> Result<Passed, NotFound>
     requires good_table { GoodTable table.now l }
-    requires node_lt_nodes { node < l.nodes }
-    requires falls { Falls table.now from (which + 1) node }
-    requires part_bound { place + length part.now < 2 ^ 64 }
-    ensures { Passes table.now l (u16_at table.now (from + 2 * which)) part.now place (seek_behind table.now l from which (most_entries - made) (spot part.now place)) result }
+    requires node_lt_nodes { at.node < l.nodes }
+    requires falls { Falls table.now from (which + 1) at.node }
+    requires part_bound { at.place + length part.now < 2 ^ 64 }
+    ensures { Passes table.now l (u16_at table.now (from + 2 * which)) part.now at.place (seek_behind table.now l from which (most_entries - at.made) (spot part.now at.place)) result }
 {
     if which == 0 {
-        return Passed::In {
+        return Ok(Passed {
             node: table::u16_at(table, from),
-            place,
-            made,
-        };
+            place: at.place,
+            made: at.made,
+        });
     }
+    let Passed { node, place, made } = at;
     let got = reader::skim_row(table, l, node, from, which, part, place, ROOM, made);
     match got {
-        ReadAnswer::Refused {
-            why,
-            place: at,
-            count: _,
-        } => Passed::Out {
-            answer: FindAnswer::Refused { why, place: at },
-        },
-        ReadAnswer::Done { place: at, count } => Passed::In {
+        Err(stopped) => Err(NotFound::Refused {
+            why: stopped.why,
+            place: stopped.place,
+        }),
+        Ok(reached) => Ok(Passed {
             node: table::u16_at(table, from + 2 * which),
-            place: at,
-            made: count,
-        },
+            place: reached.place,
+            made: reached.count,
+        }),
     }
 }
 
 // The own bytes of an item that a path goes through. It isn't `read_item::enter`: a second caller would cost the reader that
 // function's inlining.
-fn own_bytes(number: u8, part: &[u8]) -> Item
+fn own_bytes(number: u8, part: &[u8]) -> Result<Own, Refusal>
     requires { is_passed (kind_of number) ≡ true }
     ensures { Owns number part.now result }
 {
     match number {
         15 => leaf::take_flag(part, Refusal::BadOption),
-        _ => Item::Took {
-            own: Own {
-                shortest: true,
-                first: 0,
-                second: 0,
-                used: 0,
-            },
-        },
+        _ => Ok(Own {
+            shortest: true,
+            first: 0,
+            second: 0,
+            used: 0,
+        }),
     }
 }
 
@@ -156,145 +134,111 @@ fn is_there(number: u8, first: u64) -> bool
     requires { is_passed (kind_of number) ≡ true }
     ensures { result ≡ is_there (kind_of number) first }
 {
-    if number == 15 {
-        return 0 < first;
-    }
-    true
+    number != 15 || 0 < first
 }
 
 // A struct or an option on the path, and then the fields in front of its child at a position. It wants room before its bytes
 // are looked at.
-fn pass(
-    table: &[u8],
-    l: Layout,
-    node: usize,
-    which: usize,
-    part: &[u8],
-    place: usize,
-    made: usize,
-) -> Passed
+fn pass(table: &[u8], l: Layout, which: usize, part: &[u8], at: Passed) -> Result<Passed, NotFound>
     requires good_table { GoodTable table.now l }
-    requires node_lt_nodes { node < l.nodes }
-    requires inward { Inward (node_at table.now (record_of l node)) which }
-    requires part_bound { place + length part.now < 2 ^ 64 }
-    ensures { Passes table.now l (node_child table.now l node (node_at table.now (record_of l node)) which) part.now place (seek_node table.now l node which (most_entries - made) (spot part.now place)) result }
+    requires node_lt_nodes { at.node < l.nodes }
+    requires inward { Inward (node_at table.now (record_of l at.node)) which }
+    requires part_bound { at.place + length part.now < 2 ^ 64 }
+    ensures { Passes table.now l (node_child table.now l at.node (node_at table.now (record_of l at.node)) which) part.now at.place (seek_node table.now l at.node which (most_entries - at.made) (spot part.now at.place)) result }
 {
-    if ROOM <= made {
-        return Passed::Out {
-            answer: FindAnswer::Refused {
-                why: Refusal::Room,
-                place,
-            },
-        };
+    let place = at.place;
+    if ROOM <= at.made {
+        return Err(NotFound::Refused {
+            why: Refusal::Room,
+            place,
+        });
     }
-    let number = table::kind_at(table, l, node);
+    let number = table::kind_at(table, l, at.node);
     let got = own_bytes(number, part);
     match got {
-        Item::Refused { why } => Passed::Out {
-            answer: FindAnswer::Refused { why, place },
-        },
-        Item::Took { own } => {
+        Err(why) => Err(NotFound::Refused { why, place }),
+        Ok(own) => {
             let used = own.used;
             let after = place + used;
             if !is_there(number, own.first) {
-                return Passed::Out {
-                    answer: FindAnswer::Absent { place },
-                };
+                return Err(NotFound::Absent { place });
             }
-            let next = made + 1;
-            let from = table::first_child(table, l, node);
-            skim_front(table, l, node, from, which, &part[used..], after, next)
+            let inside = Passed {
+                node: at.node,
+                place: after,
+                made: at.made + 1,
+            };
+            let from = table::first_child(table, l, at.node);
+            skim_front(table, l, from, which, &part[used..], inside)
         }
     }
 }
 
 // The item at the path's end. It wants room too.
-fn take(table: &[u8], l: Layout, node: usize, part: &[u8], place: usize, made: usize) -> FindAnswer
+fn take(table: &[u8], l: Layout, part: &[u8], at: Passed) -> Result<Found, NotFound>
     requires good_table { GoodTable table.now l }
-    requires node_lt_nodes { node < l.nodes }
-    requires node_value { is_field (node_kind (node_at table.now (record_of l node))) ≡ true }
-    requires part_bound { place + length part.now < 2 ^ 64 }
-    ensures { result ≡ seek_of (node_shape table.now l node) [] (most_entries - made) (spot part.now place) }
+    requires node_lt_nodes { at.node < l.nodes }
+    requires node_value { is_field (node_kind (node_at table.now (record_of l at.node))) ≡ true }
+    requires part_bound { at.place + length part.now < 2 ^ 64 }
+    ensures { result ≡ seek_of (node_shape table.now l at.node) [] (most_entries - at.made) (spot part.now at.place) }
 {
-    if ROOM <= made {
-        return FindAnswer::Refused {
+    let place = at.place;
+    if ROOM <= at.made {
+        return Err(NotFound::Refused {
             why: Refusal::Room,
             place,
-        };
+        });
     }
-    let number = table::kind_at(table, l, node);
+    let number = table::kind_at(table, l, at.node);
     let got = leaf::take(number, part, place);
     match got {
-        Item::Refused { why } => FindAnswer::Refused { why, place },
-        Item::Took { own } => FindAnswer::Found {
+        Err(why) => Err(NotFound::Refused { why, place }),
+        Ok(own) => Ok(Found {
             first: own.first,
             second: own.second,
             place,
-        },
+        }),
     }
 }
 
 // To the end of a path that leads to an item.
-fn go(table: &[u8], l: Layout, path: &[u64], message: &[u8]) -> Passed
+fn go(table: &[u8], l: Layout, path: &[u64], message: &[u8]) -> Result<Passed, NotFound>
     requires good_table { GoodTable table.now l }
     requires path_value { is_some (leads_of (shape_of table.now l) path.now) ≡ true }
     ensures { Arrives table.now l path.now message.now result }
 {
-    let mut node = l.root;
-    let mut i = 0;
     let mut rest = message;
-    let mut at = 0;
-    let mut made = 0;
-    while i < path.len() {
-        let which = path[i] as usize;
-        let passed = pass(table, l, node, which, rest, at, made);
-        let Passed::In {
-            node: child,
-            place: next,
-            made: more,
-        } = passed
-        else {
-            return passed;
-        };
-        let used = next - at;
+    let mut at = Passed {
+        node: l.root,
+        place: 0,
+        made: 0,
+    };
+    for which in path {
+        let passed = pass(table, l, *which as usize, rest, at)?;
+        let used = passed.place - at.place;
         rest = &rest[used..];
-        at = next;
-        node = child;
-        made = more;
-        i = i + 1;
+        at = passed;
     }
-    Passed::In {
-        node,
-        place: at,
-        made,
-    }
+    Ok(at)
 }
 
-fn seek(table: &[u8], l: Layout, path: &[u64], message: &[u8]) -> FindAnswer
+fn seek(table: &[u8], l: Layout, path: &[u64], message: &[u8]) -> Result<Found, NotFound>
     requires good_table { GoodTable table.now l }
     requires path_value { is_some (leads_of (shape_of table.now l) path.now) ≡ true }
     ensures { result ≡ seek_of (shape_of table.now l) path.now most_entries (front message.now) }
 {
-    let end = go(table, l, path, message);
-    match end {
-        Passed::Out { answer } => answer,
-        Passed::In { node, place, made } => take(table, l, node, &message[place..], place, made),
-    }
+    let end = go(table, l, path, message)?;
+    take(table, l, &message[end.place..], end)
 }
 
 // The item of a message that a path of positions leads to, through structs and options: its entry and its place, as the full
 // read with room for 16,384 entries has put it, or why there is none.
-pub fn find(table: &[u8], path: &[u64], message: &[u8]) -> FindAnswer
+pub fn find(table: &[u8], path: &[u64], message: &[u8]) -> Result<Found, NotFound>
     ensures { result ≡ finds table.now path.now message.now }
 {
-    let checked = table::check(table);
-    match checked {
-        Checked::Bad { why, place } => FindAnswer::Refused { why, place },
-        Checked::Good { layout } => {
-            if leads(table, layout, path) {
-                return seek(table, layout, path, message);
-            }
-            FindAnswer::NoItem
-        }
+    let layout = table::check(table)?;
+    if !leads(table, layout, path) {
+        return Err(NotFound::NoItem);
     }
+    seek(table, layout, path, message)
 }

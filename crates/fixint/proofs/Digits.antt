@@ -1,71 +1,135 @@
--- The two loops that read a number: what is known at their heads, and that one byte more is one digit more, which fits.
+-- The bytes that std makes of a word, and the word that it makes of bytes, are those of the documents.
 -- Assumes nothing.
-use mathlib.Core.Path.{◌≡◌, refl, ap, ◌∙◌}
-use mathlib.Core.List.{List, [], ◌∷◌, reverse, reverse-append}
-use Prim.Native.Nat.{ℕ, suc, ◌+◌, ◌*◌, ◌-◌, ◌^◌, ◌<◌, ◌≤◌}
-use native.Mathlib.Nat.{pow-le-pow_right}
-use native.Mathlib.Omega.{arith}
-use native.Mathlib.Numerals.{add-one}
-use lib.ListN.{length, get_or, take, drop, length-drop, length-take}
-use lib.Seq.{slice_empty, slice-cons, take-suc}
+use Rattle.std.proofs.Common.{◌≡◌, refl, sym, ap, ◌∙◌, ℕ, zero, suc, ◌+◌, ◌-◌, ◌/◌, ◌%◌, ◌^◌, ◌<◌, ◌≤◌, List, [], ◌∷◌, ◌++◌, length, take, drop, replicate, get_or, arith, inl, inr}
+use Rattle.std.proofs.Math.Nat.{div-div-eq-div-mul, pow-suc, mod-eq_of_lt}
+use Rattle.std.proofs.lemmas.Bool.{cases_lt}
+use Rattle.std.proofs.lemmas.List.{append-nil, reverse-append, reverse-reverse, length-reverse, length-append, drop-replicate, take-replicate, drop_all, take_all, length-replicate}
+use Rattle.std.proofs.lemmas.Nat.{le_bytes_8, be_bytes_8}
+use Rattle.std.specs.Int.{w64, byte_at, bytes_low_first, bytes_high_first, to_le_bytes, to_be_bytes, from_le_bytes, from_be_bytes}
+use borrow.Rule.Slice.PartMut.{put_mid}
+use mathlib.Core.List.{reverse}
 use Rattle.wire.specs.Shape.{le, be}
-use Rattle.wire.specs.Numbers.{in_order, little}
+use Rattle.wire.specs.Numbers.{in_order, little, little_bytes}
 use Rattle.laws.specs.Range.{AreBytes}
-use Rattle.laws.proofs.Numbers.{length-order}
-use Rattle.laws.proofs.Bytes.{below-take, below-drop, below-order, little-lt}
+use Rattle.laws.proofs.Numbers.{little-back, length-little_bytes}
 
--- at most eight bytes are a word
-pub fits : (t : List ℕ) → AreBytes t → length t ≤ 8 → little t < 2 ^ 64
-fits t h l = omega (arith, little-lt t h, pow-le-pow_right {n = 256} (omega arith) l)
+-- ---- the bytes of a word
 
-digit : (b : ℕ) (t : List ℕ) → little t * 256 + b ≡ little (b ∷ t)
+-- byte i, of what the lower bytes leave
+byte : (i x y : ℕ) → y ≡ x / 256 ^ i → byte_at i x ≡ y % 256
+byte zero x y e = let same : y ≡ x = omega arith in rw same
+byte (suc i) x y e = rw e
+
+next : (i x y : ℕ) → y ≡ x / 256 ^ i → y / 256 ≡ x / 256 ^ suc i
+next i x y e = rw (e, pow-suc 256 i) (div-div-eq-div-mul x (256 ^ i) 256)
+
+low : (i k x y : ℕ) → y ≡ x / 256 ^ i → bytes_low_first i k x ≡ little_bytes k y
+unfolding little_bytes
+low i zero x y e = refl
+low i (suc k) x y e = rw (byte i x y e, low (suc i) k x (y / 256) (next i x y e))
+
+-- the last of k + 1 bytes
+more : (i k x y : ℕ) → y ≡ x / 256 ^ i → little_bytes (suc k) y ≡ little_bytes k y ++ (byte_at (i + k) x ∷ [])
+unfolding little_bytes
+more i zero x y e = let here : i + 0 ≡ i = omega arith in rw (here, byte i x y e)
+more i (suc k) x y e =
+    let on : suc i + k ≡ i + suc k = omega arith in
+    ap (λ (s : List ℕ). y % 256 ∷ s) (rw on at (more (suc i) k x (y / 256) (next i x y e)))
+
+high : (k x : ℕ) → bytes_high_first k x ≡ reverse (little_bytes k x)
+unfolding little_bytes
+high zero x = refl
+high (suc k) x =
+    let here : 0 + k ≡ k = omega arith in
+    let whole : little_bytes (suc k) x ≡ little_bytes k x ++ (byte_at k x ∷ []) = rw here at (more 0 k x x (omega arith)) in
+    ap (λ (s : List ℕ). byte_at k x ∷ s) (high k x) ∙ sym (ap reverse whole ∙ reverse-append (little_bytes k x) (byte_at k x ∷ []))
+
+take-low : (n k x : ℕ) → n ≤ k → take n (little_bytes k x) ≡ little_bytes n x
+unfolding little_bytes
+take-low zero k x h = refl
+take-low (suc n) zero x h = absurd (omega arith)
+take-low (suc n) (suc k) x h = ap (λ (s : List ℕ). x % 256 ∷ s) (take-low n k (x / 256) (omega arith))
+
+drop-high : (k n x : ℕ) → n ≤ k → drop (k - n) (bytes_high_first k x) ≡ bytes_high_first n x
+drop-high zero n x h = let e : n ≡ 0 = omega arith in rw e refl
+drop-high (suc k) n x h = elim (cases_lt k n) [
+  | inl top ↦
+      let e : n ≡ suc k = omega arith in
+      let z : suc k - n ≡ 0 = omega arith in
+      rw (z, e) refl
+  | inr lower ↦
+      let e : suc k - n ≡ suc (k - n) = omega arith in
+      rw e (drop-high k n x lower)
+]
+
+low-word : (x : ℕ) → to_le_bytes w64 x ≡ little_bytes 8 x
+low-word x = low 0 8 x x (omega arith)
+
+-- the lowest n bytes, the lowest first
+pub low-bytes : (n x : ℕ) → n ≤ 8 → take n (to_le_bytes w64 x) ≡ in_order le (little_bytes n x)
+unfolding in_order
+low-bytes n x h = rw (low-word x) (take-low n 8 x h)
+
+-- the same, the highest first, cut from the word's as a range is
+pub high-bytes : (n x : ℕ) → n ≤ 8 → take (8 - (8 - n)) (drop (8 - n) (to_be_bytes w64 x)) ≡ in_order be (little_bytes n x)
+unfolding in_order
+high-bytes n x h =
+    let many : 8 - (8 - n) ≡ n = omega arith in
+    rw (many, drop-high 8 n x h, high n x) (take_all n _ (omega (arith, length-reverse (little_bytes n x), length-little_bytes n x)))
+
+-- ---- the word of bytes
+
+zeros : (k : ℕ) → little (replicate k 0) ≡ 0
 unfolding little
-digit b t = omega arith
+zeros zero = refl
+zeros (suc k) = rw (zeros k)
 
-module _ (s : List ℕ) (n : ℕ) where
-  -- the bytes from i up to n are read, the last first
-  pub record Down (value i : ℕ) : Type 0 where
-    pub within : i ≤ n
-    pub is : value ≡ little (drop i (take n s))
+behind : (s : List ℕ) (k : ℕ) → little (s ++ replicate k 0) ≡ little s
+unfolding little
+behind [] k = zeros k
+behind (b ∷ s) k = rw (behind s k)
 
-  -- the bytes up to i are read, the first first
-  pub record Up (value i : ℕ) : Type 0 where
-    pub within : i ≤ n
-    pub is : value ≡ little (reverse (take i s))
+zero-at : (k i : ℕ) → get_or (replicate k 0) i 0 < 256
+zero-at zero i = omega arith
+zero-at (suc k) zero = omega arith
+zero-at (suc k) (suc i) = zero-at k i
 
-  pub down-start : Down 0 n
-  unfolding little
-  down-start = record { within = omega arith; is = rw (slice_empty n s) }
+bytes-behind : (s : List ℕ) (k : ℕ) → AreBytes s → AreBytes (s ++ replicate k 0)
+bytes-behind [] k h i = zero-at k i
+bytes-behind (b ∷ s) k h zero = h 0
+bytes-behind (b ∷ s) k h (suc i) = bytes-behind s k (λ j. h (suc j)) i
 
-  pub up_start : Up 0 0
-  unfolding little
-  up_start = record { within = omega arith; is = refl }
+bytes-front : (k : ℕ) (s : List ℕ) → AreBytes s → AreBytes (replicate k 0 ++ s)
+bytes-front zero s h i = h i
+bytes-front (suc k) s h zero = omega arith
+bytes-front (suc k) s h (suc i) = bytes-front k s h i
 
-  pub down-end : {value i : ℕ} → Down value i → i ≤ 0 → value ≡ little (in_order le (take n s))
+-- zeros in front are behind in the other order
+onto : (k : ℕ) (s : List ℕ) → little (reverse (replicate k 0 ++ s)) ≡ little (reverse s)
+onto zero s = refl
+onto (suc k) s = rw (reverse-append (0 ∷ []) (replicate k 0 ++ s)) (behind (reverse (replicate k 0 ++ s)) 1 ∙ onto k s)
+
+module _ (s : List ℕ) (n x : ℕ) (len : length s ≡ n) (few : n ≤ 8) (bytes : AreBytes s) (fits : x < 2 ^ 64) where
+  word-back : little (little_bytes 8 x) ≡ x
+  word-back = little-back 8 x ∙ mod-eq_of_lt (omega arith)
+
+  -- n bytes, the lowest first, and zeros behind them
+  pub low_word : x ≡ from_le_bytes w64 (put_mid 0 n (replicate 8 0) s) → x ≡ little (in_order le s)
   unfolding in_order
-  down-end {value} {i} r h = let z : i ≡ 0 = omega arith in rw z at r.is
+  low_word e =
+      let t : List ℕ = s ++ replicate (8 - n) 0 in
+      let shape : put_mid 0 n (replicate 8 0) s ≡ t = rw (drop-replicate {X = ℕ} n 8 0) refl in
+      let many : length t ≡ 8 = omega (arith, length-append s (replicate (8 - n) 0), length-replicate {A = ℕ} (8 - n) 0) in
+      let back : to_le_bytes w64 x ≡ t = le_bytes_8 t x many (bytes-behind s (8 - n) bytes) (rw shape at e) in
+      sym word-back ∙ ap little (sym (low-word x) ∙ back) ∙ behind s (8 - n)
 
-  pub up-end : {value i : ℕ} → Up value i → n ≤ i → value ≡ little (in_order be (take n s))
+  -- the same, the highest first, and zeros in front of them
+  pub high_word : x ≡ from_be_bytes w64 (put_mid (8 - n) (8 - (8 - n)) (replicate 8 0) s) → x ≡ little (in_order be s)
   unfolding in_order
-  up-end {value} {i} r h = let z : i ≡ n = omega arith in rw z at r.is
-
-  module _ (there : n ≤ length s) {value i : ℕ} where
-    pub down_step : Down value i → 0 < i → Down (value * 256 + get_or s (i - 1) 0) (i - 1)
-    down_step r p =
-        let j : suc (i - 1) ≡ i = omega arith in
-        let cons : drop (i - 1) (take n s) ≡ get_or s (i - 1) 0 ∷ drop i (take n s) = rw j at (slice-cons (i - 1) n s 0 (omega arith) there) in
-        record { within = omega arith; is = rw (cons, r.is) (digit _ _) }
-
-    pub up_step : Up value i → i < n → Up (value * 256 + get_or s i 0) (i + 1)
-    up_step r p =
-        let cons : reverse (take (suc i) s) ≡ get_or s i 0 ∷ reverse (take i s) =
-        ap reverse (take-suc s i 0 (omega arith)) ∙ reverse-append (take i s) (get_or s i 0 ∷ []) in
-        record { within = omega arith; is = rw (add-one, cons, r.is) (digit _ _) }
-
-  module _ (bytes : AreBytes s) (few : n ≤ 8) {value i : ℕ} where
-    pub down_fits : Down value i → value < 2 ^ 64
-    down_fits r = rw r.is (fits _ (below-drop 256 i (take n s) (below-take 256 n s bytes)) (simp (length-drop, length-take) (omega arith)))
-
-    pub up_fits : Up value i → value < 2 ^ 64
-    unfolding in_order
-    up_fits r = rw r.is (fits _ (below-order 256 be (take i s) (below-take 256 i s bytes)) (rw (length-order be (take i s)) (simp length-take (omega arith))))
+  high_word e =
+      let t : List ℕ = replicate (8 - n) 0 ++ s in
+      let shape : put_mid (8 - n) (8 - (8 - n)) (replicate 8 0) s ≡ t =
+      rw (take-replicate {X = ℕ} (8 - n) 8 0 (omega arith), drop-replicate {X = ℕ} (8 - n) 8 0, drop_all {X = ℕ} (8 - (8 - n)) (replicate (8 - (8 - n)) 0) (omega (arith, length-replicate {A = ℕ} (8 - (8 - n)) 0)), append-nil) refl in
+      let many : length t ≡ 8 = omega (arith, length-append (replicate (8 - n) 0) s, length-replicate {A = ℕ} (8 - n) 0) in
+      let back : to_be_bytes w64 x ≡ t = be_bytes_8 t x many (bytes-front (8 - n) s bytes) (rw shape at e) in
+      sym word-back ∙ ap little (sym (reverse-reverse (little_bytes 8 x)) ∙ ap reverse (sym (high 8 x) ∙ back)) ∙ onto (8 - n) s

@@ -9,7 +9,7 @@ use native.Mathlib.Omega.{arith}
 use lib.ListN.{length, take}
 use borrow.Author.Tests.{le-leb, lt-leb}
 use Rattle.wire.specs.declared.Refusal.TheVariants.{End}
-use Rattle.wire.specs.declared.Item.TheVariants.{Refused}
+use Rattle.wire.specs.Item.{Refused}
 use Rattle.wire.specs.Tests.{pick}
 use Rattle.wire.specs.Shape.{Width, w16, w32, w64, bits, size, Order, le, Sign, signed, fixed}
 use Rattle.wire.specs.Numbers.{word, took, in_order, little, word_of}

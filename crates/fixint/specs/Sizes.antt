@@ -1,7 +1,7 @@
 -- Fixed-size numbers of n bytes, in either order and with either sign.
 -- Assumes nothing.
 use Rattle.std.specs.Prelude.{◌≡◌, Bool, true, false, List, ℕ, ◌*◌, ◌^◌, ◌≤◌}
-use Rattle.wire.specs.declared.Item.{Item}
+use Rattle.wire.specs.Item.{Item}
 use Rattle.wire.specs.Shape.{w32, w64, Order, le, be, Sign, signed, unsigned, Plain, i8, u8, f32, f64, fixed}
 use Rattle.wire.specs.Numbers.{word, little, in_order, word_of}
 use Rattle.wire.specs.Reading.{read_plain}

@@ -1,7 +1,7 @@
 -- Each call's contract leaves no choice.
 -- Assumes nothing.
 use Rattle.std.specs.Prelude.{◌≡◌, List, ℕ}
-use Rattle.wire.specs.declared.Item.{Item}
+use Rattle.wire.specs.Item.{Item}
 use Rattle.wire.specs.Shape.{Width, size, Order, Plain}
 use Rattle.wire.specs.Numbers.{little_bytes, in_order}
 use Rattle.wire.specs.Reading.{read_plain}

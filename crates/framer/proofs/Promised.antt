@@ -8,8 +8,8 @@ use native.Mathlib.Nat.{zero-add}
 use lib.ListN.{length, drop}
 use lib.Seq.{sets-eq}
 use Rattle.wire.specs.declared.Refusal.TheVariants.{Full}
-use Rattle.wire.specs.declared.WriteAnswer.{WriteAnswer}
-use Rattle.wire.specs.declared.WriteAnswer.TheVariants.{Done, Refused}
+use Rattle.wire.specs.WriteAnswer.{WriteAnswer}
+use Rattle.wire.specs.WriteAnswer.{Done, Refused}
 use Rattle.wire.specs.Answers.{write_answer, out_with}
 use Rattle.wire.specs.Sending.{frame, sends}
 use Rattle.laws.specs.Answered.{Writes}

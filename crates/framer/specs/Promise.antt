@@ -1,7 +1,7 @@
 -- That the contract of the public call leaves no choice.
 -- Assumes nothing.
 use Rattle.std.specs.Prelude.{List, ℕ, length}
-use Rattle.wire.specs.declared.WriteAnswer.{WriteAnswer}
+use Rattle.wire.specs.WriteAnswer.{WriteAnswer}
 use Rattle.wire.specs.Sending.{sends}
 use Rattle.laws.specs.Answered.{Writes}
 use Rattle.laws.specs.Unique.{Unique}

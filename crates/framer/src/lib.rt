@@ -8,7 +8,7 @@ ghost use Rattle.wire.specs.Sending.{frame as frame_of};
 ghost use Rattle.laws.specs.Answered.{Writes};
 ghost use Rattle.framer.specs.Steps.{through_zero, Most, Runnable, Ran, Fillable, Filled, Put};
 
-use wire::{Refusal, WriteAnswer};
+use wire::{Refusal, RefusedAt};
 
 // The bytes of a full group.
 const FULL: usize = 254;
@@ -185,16 +185,16 @@ fn put_frame(message: &[u8], out: &mut [u8]) -> usize
 }
 
 // Writes a message's frame, or refuses with the output unchanged.
-pub fn frame(message: &[u8], out: &mut [u8]) -> WriteAnswer
+pub fn frame(message: &[u8], out: &mut [u8]) -> Result<usize, RefusedAt>
     ensures { Writes (sends message.now (length out.old)) out.old result out.new }
 {
     let room = out.len();
     if has_room(message, room) {
         let place = put_frame(message, out);
-        return WriteAnswer::Done { place };
+        return Ok(place);
     }
-    WriteAnswer::Refused {
+    Err(RefusedAt {
         why: Refusal::Full,
         place: 0,
-    }
+    })
 }

@@ -6,7 +6,7 @@ use Prim.Native.Nat.{ℕ}
 use native.Mathlib.Omega.{arith}
 use lib.ListN.{length, take, drop, length-append}
 use lib.Seq.{take_at}
-use Rattle.wire.specs.declared.WriteAnswer.TheVariants.{Done}
+use Rattle.wire.specs.WriteAnswer.{Done}
 use Rattle.wire.specs.Answers.{form, write_answer, out_with}
 use Rattle.wire.specs.Frames.{feed, feed_bridge}
 use Rattle.wire.specs.Sending.{encode, frame, sends}

@@ -1,7 +1,7 @@
 -- What becomes of a frame that was sent and fed to the accumulator.
 -- Assumes nothing.
 use Rattle.std.specs.Prelude.{◌≡◌, false, List, ◌++◌, ℕ, ◌≤◌, length, take}
-use Rattle.wire.specs.declared.WriteAnswer.TheVariants.{Done}
+use Rattle.wire.specs.WriteAnswer.{Done}
 use Rattle.wire.specs.Frames.{room}
 use Rattle.wire.specs.Sending.{frame, sends}
 use Rattle.laws.specs.Answered.{Writes}

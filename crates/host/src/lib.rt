@@ -33,13 +33,13 @@ pub fn word_count(rt: &impl Env) -> usize {
     usize::MAX
 }
 
-// Puts the command's word i in front of the room, and says how long it is: 0 where it isn't there or is longer than the room.
-pub fn word(rt: &impl Env, i: usize, room: &mut [u8]) -> usize
-    ensures { result ≤ length room.new }
+// The command's word i, which it puts in front of the room: nothing where it isn't there or is longer than the room.
+pub fn word<'a>(rt: &impl Env, i: usize, room: &'a mut [u8]) -> &'a [u8]
+    ensures { length result.now ≤ length room.old }
 {
     match rt.arg(i, room) {
-        Ok(n) => n,
-        Err(_) => 0,
+        Ok(n) => &room[..n],
+        Err(_) => &[],
     }
 }
 
@@ -61,10 +61,7 @@ pub fn read_full<R: Read>(from: &mut R, room: &mut [u8]) -> io::Result<usize>
 
 // A path is text.
 fn path_of(path: &[u8]) -> io::Result<&str> {
-    match str::from_utf8(path) {
-        Ok(text) => Ok(text),
-        Err(_) => Err(Error::from(ErrorKind::InvalidFilename)),
-    }
+    str::from_utf8(path).map_err(|_| Error::from(ErrorKind::InvalidFilename))
 }
 
 pub fn open<R: Files>(rt: &R, path: &[u8]) -> io::Result<R::File> {
@@ -78,10 +75,8 @@ pub fn write(rt: &impl Files, path: &[u8], bytes: &[u8]) -> io::Result<()> {
 
 // An error's words, without the number that the system has for it.
 fn words_of(why: &str) -> &str {
-    match why.split_once(" (os error ") {
-        Some((words, _)) => words,
-        None => why,
-    }
+    why.split_once(" (os error ")
+        .map_or(why, |(words, _)| words)
 }
 
 // An error's words and its number fit: the system's longest are some fifty bytes.

@@ -6,14 +6,14 @@ use Prim.Native.Nat.{ℕ, ◌^◌, ◌<◌, ◌≤◌}
 use native.Mathlib.Omega.{arith}
 use lib.ListN.{length, take}
 use Rattle.wire.specs.declared.Refusal.TheVariants.{Full}
-use Rattle.desk.specs.declared.CsvAnswer.TheVariants.{Done, Refused, NoRow}
+use Rattle.desk.specs.CsvAnswer.{Done, Refused, NoRow}
 use Rattle.desk.specs.Csv.{within}
 use Rattle.output.specs.Bytes.{Puts}
 use Rattle.put_number.specs.Lays.{Lays}
 use Rattle.export_row.specs.Outputs.{Gives}
 use Rattle.export_row.proofs.Once.{gives-no, laid-full, laid-short, laid-long}
-use Rattle.take_row.specs.declared.Message.{Message}
-use Rattle.take_row.specs.declared.Message.TheVariants as message
+use Rattle.take_row.specs.Message.{Message}
+use Rattle.take_row.specs.Message as message
 use Rattle.take_row.specs.Messages.{Taken, gives, stops_at, LaysMessage, laid, refused}
 use Rattle.import_row.specs.Outputs.{taken_output}
 

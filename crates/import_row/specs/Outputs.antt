@@ -1,7 +1,7 @@
 -- What a row that was taken gives.
 -- Assumes nothing.
 use Rattle.std.specs.Prelude.{ℕ}
-use Rattle.desk.specs.declared.CsvAnswer.TheVariants.{NoRow}
+use Rattle.desk.specs.CsvAnswer.{NoRow}
 use Rattle.desk.specs.Csv.{Output, refusal, within}
 use Rattle.take_row.specs.Messages.{Taken, gives, stops_at}
 

@@ -2,15 +2,15 @@
 // copied; a second pass writes only what is longer than that room.
 #![tactic(auto)]
 
-ghost use Rattle.std.specs.Prelude.{length};
+ghost use Rattle.std.specs.Prelude.{◌≤◌, length};
 ghost use Rattle.desk.specs.Csv.{columns};
 ghost use Rattle.columns.specs.Columns.{field_shapes, Rowed};
 ghost use Rattle.export_row.specs.Outputs.{Gives};
 ghost use Rattle.take_row.specs.Messages.{taken_by};
 ghost use Rattle.import_row.specs.Outputs.{taken_output};
 
-use desk::CsvAnswer;
-use take_row::Message;
+use columns::Columns;
+use desk::NotRows;
 use wire::{Layout, Refusal};
 
 // The room for the message of few fields that are short, which is soon cleared, and of others.
@@ -20,85 +20,62 @@ const LONG: usize = 8192;
 
 const FEW: usize = 12;
 
-// The message of a row whose fields' numbers, so many, stand at `from` in the table, kept in a room on its way.
+// The message of a row whose fields' numbers stand in the table, kept in a room on its way.
 fn import_kept(
     table: &[u8],
     l: Layout,
-    from: usize,
-    width: usize,
+    fields: Columns,
     row: &[u8],
     kept: &mut [u8],
     out: &mut [u8],
-) -> CsvAnswer
-    requires { Rowed table.now l from width }
-    ensures { Gives (taken_output (length out.old) (taken_by (columns (field_shapes table.now l from width)) row.now)) out.old result out.new }
+) -> Result<usize, NotRows>
+    requires { Rowed table.now l fields.from fields.width }
+    ensures { Gives (taken_output (length out.old) (taken_by (columns (field_shapes table.now l fields.from fields.width)) row.now)) out.old result out.new }
 {
-    let got = take_row::take_row(table, l, from, width, row, kept);
-    match got {
-        Message::Stops { at } => CsvAnswer::NoRow { place: at },
-        Message::Laid { len } => {
-            if out.len() < len {
-                return CsvAnswer::Refused {
-                    why: Refusal::Full,
-                    place: 0,
-                };
-            }
-            if len <= kept.len() {
-                output::put_bytes(&kept[..len], out, 0);
-                return CsvAnswer::Done { place: len };
-            }
-            take_row::take_row(table, l, from, width, row, out);
-            CsvAnswer::Done { place: len }
-        }
+    let len = take_row::take_row(table, l, fields, row, kept)?;
+    if out.len() < len {
+        return Err(NotRows::Refused {
+            why: Refusal::Full,
+            place: 0,
+        });
     }
+    if len <= kept.len() {
+        output::put_bytes(&kept[..len], out, 0);
+        return Ok(len);
+    }
+    take_row::take_row(table, l, fields, row, out)?;
+    Ok(len)
 }
 
-fn import_few(
+// The same in a room of so many bytes.
+fn import_in<const ROOM: usize>(
     table: &[u8],
     l: Layout,
-    from: usize,
-    width: usize,
+    fields: Columns,
     row: &[u8],
     out: &mut [u8],
-) -> CsvAnswer
-    requires { Rowed table.now l from width }
-    ensures { Gives (taken_output (length out.old) (taken_by (columns (field_shapes table.now l from width)) row.now)) out.old result out.new }
+) -> Result<usize, NotRows>
+    requires rows { Rowed table.now l fields.from fields.width }
+    requires small { ROOM ≤ 8192 }
+    ensures { Gives (taken_output (length out.old) (taken_by (columns (field_shapes table.now l fields.from fields.width)) row.now)) out.old result out.new }
 {
-    let mut kept: [u8; SHORT] = [0; SHORT];
-    import_kept(table, l, from, width, row, &mut kept, out)
+    let mut kept = [0; ROOM];
+    import_kept(table, l, fields, row, &mut kept, out)
 }
 
-fn import_many(
-    table: &[u8],
-    l: Layout,
-    from: usize,
-    width: usize,
-    row: &[u8],
-    out: &mut [u8],
-) -> CsvAnswer
-    requires { Rowed table.now l from width }
-    ensures { Gives (taken_output (length out.old) (taken_by (columns (field_shapes table.now l from width)) row.now)) out.old result out.new }
-{
-    let mut kept: [u8; LONG] = [0; LONG];
-    import_kept(table, l, from, width, row, &mut kept, out)
-}
-
-// The message of a row whose fields' numbers, so many, stand at `from` in the table.
+// The message of a row whose fields' numbers stand in the table.
 pub fn import_row(
     table: &[u8],
     l: Layout,
-    from: usize,
-    width: usize,
+    fields: Columns,
     row: &[u8],
     out: &mut [u8],
-) -> CsvAnswer
-    requires { Rowed table.now l from width }
-    ensures { Gives (taken_output (length out.old) (taken_by (columns (field_shapes table.now l from width)) row.now)) out.old result out.new }
+) -> Result<usize, NotRows>
+    requires { Rowed table.now l fields.from fields.width }
+    ensures { Gives (taken_output (length out.old) (taken_by (columns (field_shapes table.now l fields.from fields.width)) row.now)) out.old result out.new }
 {
-    if width <= FEW {
-        if row.len() <= SHORT {
-            return import_few(table, l, from, width, row, out);
-        }
+    if fields.width <= FEW && row.len() <= SHORT {
+        return import_in::<SHORT>(table, l, fields, row, out);
     }
-    import_many(table, l, from, width, row, out)
+    import_in::<LONG>(table, l, fields, row, out)
 }

@@ -22,8 +22,8 @@ use Rattle.batches.proofs.Ends.{next-joins}
 use Rattle.batches.proofs.Onward.{joined-one, rows-one}
 use Rattle.row.specs.Ranks.{row_count, rows_in}
 use Rattle.messages.specs.declared.Fields.{Fields}
-use Rattle.messages.specs.declared.NextMessage.{NextMessage}
-use Rattle.messages.specs.declared.NextMessage.TheVariants.{Message as Is}
+use Rattle.messages.specs.NextMessage.{NextMessage}
+use Rattle.messages.specs.NextMessage.{Message as Is}
 use Rattle.messages.specs.Fields.{keys_of, KeyedBy}
 use Rattle.messages.specs.Steps.{next_answer}
 use Rattle.messages.proofs.SoFar.{Told}

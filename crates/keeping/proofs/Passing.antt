@@ -26,8 +26,8 @@ use Rattle.batches.proofs.Onward.{ontos, ontos-whole, ontos-broken, joined-one}
 use Rattle.batches.proofs.Checks.{messages-pass}
 use Rattle.batches.proofs.Starting.{in-stands}
 use Rattle.bits.specs.Marks.{marked}
-use Rattle.messages.specs.declared.NextMessage.{NextMessage}
-use Rattle.messages.specs.declared.NextMessage.TheVariants.{Message as Is, Stops}
+use Rattle.messages.specs.NextMessage.{NextMessage}
+use Rattle.messages.specs.NextMessage.{Message as Is, Stops}
 use Rattle.messages.specs.Steps.{next_answer}
 use Rattle.messages.proofs.SoFar.{Told, told, stopped, SoFar, begin, one_more, step, step_less, step-inside, step-stops, step_end}
 use Rattle.keeping.specs.Kept.{Good, survey_of}

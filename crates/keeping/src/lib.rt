@@ -15,7 +15,7 @@ ghost use Rattle.keeping.specs.Kept.{Good, survey_of, Keeps, kept_for, batch_kep
 ghost use Rattle.keeping.specs.Lasts.{MarksIf, Lasts, InWindow};
 
 use desk::Row;
-use messages::{Fields, NextMessage};
+use messages::Fields;
 use wire::Layout;
 
 // A trailer's bytes.
@@ -56,13 +56,11 @@ fn mark_last(rows: &[u8], base: usize, area: &mut [u8])
         return;
     }
     let mut last = row::load(rows, 0);
-    let mut i = 1;
-    while i < count {
+    for i in 1..count {
         let next = row::load(rows, i);
         let goes_on = messages::same_key(last.key, next.key);
         mark_if(!goes_on, last.offset, base, area);
         last = next;
-        i = i + 1;
     }
     mark_if(true, last.offset, base, area);
 }
@@ -103,10 +101,10 @@ pub fn survey(
     let mut count = 0;
     let mut len = 0;
     while at < front.len() {
-        let next = messages::next(table, l, f, &front[at..]);
-        let NextMessage::Message { key: _, len: size } = next else {
+        let Ok(message) = messages::next(table, l, f, &front[at..]) else {
             return Surveyed { count, len };
         };
+        let size = message.len;
         let behind = at + size;
         base = window_at(rows, base, at, area);
         if bits::is_marked(area, at - base) {
@@ -165,15 +163,18 @@ fn keep(
     let mut to = 0;
     let mut many = 0;
     while at < front.len() {
-        let next = messages::next(table, l, f, &front[at..]);
-        let NextMessage::Message { key, len: size } = next else {
+        let Ok(message) = messages::next(table, l, f, &front[at..]) else {
             return;
         };
+        let size = message.len;
         let behind = at + size;
         base = window_at(rows, base, at, area);
         if bits::is_marked(area, at - base) {
             let offset = to as u64;
-            let row = Row { key, offset };
+            let row = Row {
+                key: message.key,
+                offset,
+            };
             put_kept(&front[at..behind], row, out, len, to, many);
             to = to + size;
             many = many + 1;

@@ -8,7 +8,7 @@ use lib.ListN.{length, get_or, set, drop, replicate, length-append, length-repli
 use lib.Seq.{drop-length, drop_at}
 use borrow.Author.Fill.{fill_none, fill_more}
 use borrow.Author.Tests.{le-leb, lt-leb}
-use Rattle.wire.specs.declared.AskAnswer.TheVariants.{ShortArea}
+use Rattle.wire.specs.AskAnswer.{ShortArea}
 use Rattle.wire.specs.Tests.{given}
 use Rattle.wire.specs.Table.{check}
 use Rattle.wire.specs.Answers.{ask_by, area_bytes, asks_with, asks, zeroed, area_after}

@@ -4,7 +4,7 @@ use mathlib.Core.Path.{◌≡◌, refl, sym, ap, ◌∙◌}
 use mathlib.Core.Bool.{Bool, true, false}
 use mathlib.Core.List.{List, [], ◌++◌, append_assoc}
 use Prim.Native.Nat.{ℕ, ◌≤◌}
-use Rattle.wire.specs.declared.Item.{Item}
+use Rattle.wire.specs.Item.{Item}
 use Rattle.wire.specs.Shape.{Kind, Shape}
 use Rattle.wire.specs.Walk.{Follow, following, is_known, Walk}
 use Rattle.wire.specs.Values.{Entry}

@@ -9,7 +9,7 @@ use lib.ListN.{length, drop, length-append, length-take}
 use lib.Seq.{drop-append_seam, take-append_seam}
 use borrow.Author.Tests.{lt-ltb, le-ltb, eq-eqb}
 use Rattle.wire.specs.declared.Own.{Own}
-use Rattle.wire.specs.declared.Item.{Item}
+use Rattle.wire.specs.Item.{Item}
 use Rattle.wire.specs.Tests.{pick, both}
 use Rattle.wire.specs.Shape.{w64, bits, Content}
 use Rattle.wire.specs.Values.{part}

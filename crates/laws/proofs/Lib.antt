@@ -1,4 +1,5 @@
 -- The proofs of what specs/ states.
+pub mod Answers
 pub mod Walks
 pub mod Splits
 pub mod Parts

@@ -12,8 +12,8 @@ use borrow.Author.Tests.{leb-true, leb-false, le-leb, ltb-true, ltb-false, le-lt
 use Rattle.wire.specs.declared.Refusal.{Refusal}
 use Rattle.wire.specs.declared.Refusal.TheVariants.{End, BadChar, BadUtf8}
 use Rattle.wire.specs.declared.Own.{Own}
-use Rattle.wire.specs.declared.Item.{Item}
-use Rattle.wire.specs.declared.Item.TheVariants.{Took, Refused}
+use Rattle.wire.specs.Item.{Item}
+use Rattle.wire.specs.Item.{Took, Refused}
 use Rattle.wire.specs.Tests.{pick, both}
 use Rattle.wire.specs.Numbers.{most, last, low, varint_f, varint, on_first, took, word_of}
 use Rattle.wire.specs.Text.{utf8}

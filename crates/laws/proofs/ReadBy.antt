@@ -5,7 +5,7 @@ use mathlib.Core.Bool.{true, false}
 use mathlib.Core.List.{List}
 use Prim.Native.Nat.{ℕ}
 use Rattle.wire.specs.declared.Layout.{Layout}
-use Rattle.wire.specs.declared.Checked.TheVariants.{Good}
+use Rattle.wire.specs.Checked.{Good}
 use Rattle.wire.specs.Table.{shape_of}
 use Rattle.wire.specs.Reading.{judged, head_by, front, read, read_strict, fit}
 use Rattle.wire.specs.Answers.{read_by}

@@ -9,8 +9,8 @@ use lib.ListN.{length}
 use Rattle.wire.specs.declared.Refusal.{Refusal}
 use Rattle.wire.specs.declared.Refusal.TheVariants.{Room}
 use Rattle.wire.specs.declared.Own.{Own}
-use Rattle.wire.specs.declared.Item.{Item}
-use Rattle.wire.specs.declared.Item.TheVariants.{Took, Refused}
+use Rattle.wire.specs.Item.{Item}
+use Rattle.wire.specs.Item.{Took, Refused}
 use Rattle.wire.specs.Shape.{Kind}
 use Rattle.wire.specs.Values.{Entry}
 use Rattle.wire.specs.Reading.{Head, Spot, Run, Outcome, reached, refused, run_after, read_nothing, read_on, read_then, past, entry_of, enter, read_item, within, fit}

@@ -7,7 +7,7 @@ use native.Mathlib.Omega.{arith}
 use lib.ListN.{length, length-drop}
 use lib.Seq.{drop-append-le}
 use Rattle.wire.specs.declared.Own.{Own}
-use Rattle.wire.specs.declared.Item.TheVariants.{Took}
+use Rattle.wire.specs.Item.{Took}
 use Rattle.wire.specs.Shape.{Kind}
 use Rattle.wire.specs.Walk.{following}
 use Rattle.wire.specs.Values.{Entry}

@@ -12,7 +12,7 @@ use borrow.Author.Tests.{ltb-true, leb-true, eqb-true}
 use Rattle.wire.specs.declared.Refusal.{Refusal}
 use Rattle.wire.specs.declared.Ending.{Ending}
 use Rattle.wire.specs.declared.Layout.{Layout}
-use Rattle.wire.specs.declared.Checked.TheVariants.{Good, Bad}
+use Rattle.wire.specs.Checked.{Good, Bad}
 use Rattle.wire.specs.Tests.{given, both}
 use Rattle.wire.specs.Shape.{Kind, plain, pooled, option, sequence, map, struct, enum, Shape, node, more, depth, deepest}
 use Rattle.wire.specs.Table.{u16_at, TableForm, first, second, size_of, most_nodes, table_form, ending_at, layout_at, good_trailer, is_kind, Node, node_at, record_of, first_child, child_count, below, good_places, good_kind, good_node, shapes_at, shape_by, shape_f, shape_of, chain_of, short_chain, good_in, check_from, check_at, check_as, check}

@@ -1,9 +1,9 @@
 -- An answer and lent memory that are those of a reading, of a writing or of the append question: what the contracts of these calls say, and the promises about what they leave.
 -- Assumes nothing.
 use Rattle.std.specs.Prelude.{◌≡◌, List, ℕ}
-use Rattle.wire.specs.declared.ReadAnswer.{ReadAnswer}
-use Rattle.wire.specs.declared.WriteAnswer.{WriteAnswer}
-use Rattle.wire.specs.declared.AskAnswer.{AskAnswer}
+use Rattle.wire.specs.ReadAnswer.{ReadAnswer}
+use Rattle.wire.specs.WriteAnswer.{WriteAnswer}
+use Rattle.wire.specs.AskAnswer.{AskAnswer}
 use Rattle.wire.specs.Reading.{Run}
 use Rattle.wire.specs.Answers.{run_answer, store_with, Form, write_answer, out_with, asks, area_after}
 

@@ -2,7 +2,7 @@
 -- Assumes nothing.
 use Rattle.std.specs.Prelude.{◌≡◌, true, List, ℕ}
 use Rattle.wire.specs.declared.Own.{Own}
-use Rattle.wire.specs.declared.Item.TheVariants.{Took}
+use Rattle.wire.specs.Item.{Took}
 use Rattle.wire.specs.Shape.{Kind, struct}
 use Rattle.wire.specs.Walk.{following, is_known}
 use Rattle.wire.specs.Numbers.{took}

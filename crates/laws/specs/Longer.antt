@@ -4,7 +4,7 @@ use Rattle.std.specs.Prelude.{◌≡◌, List, ◌++◌, ℕ, ◌≤◌, length}
 use Rattle.wire.specs.declared.Refusal.{Refusal}
 use Rattle.wire.specs.declared.Refusal.TheVariants.{End}
 use Rattle.wire.specs.declared.Own.{Own}
-use Rattle.wire.specs.declared.Item.TheVariants.{Took}
+use Rattle.wire.specs.Item.{Took}
 use Rattle.wire.specs.Shape.{Kind, Shape}
 use Rattle.wire.specs.Values.{Entry}
 use Rattle.wire.specs.Reading.{head, Spot, Run, reached, refused, past, read}

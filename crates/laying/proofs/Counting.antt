@@ -18,11 +18,11 @@ use Rattle.desk.specs.declared.Row.{Row}
 use Rattle.desk.specs.Messages.{Keyed, is_keyed, Message, next_of, split, joined, rows_of}
 use Rattle.desk.specs.Batch.{offsets_fit}
 use Rattle.batches.proofs.Onward.{rows-one}
-use Rattle.messages.specs.declared.NextMessage.{NextMessage}
-use Rattle.messages.specs.declared.NextMessage.TheVariants.{Message as Is, Stops}
+use Rattle.messages.specs.NextMessage.{NextMessage}
+use Rattle.messages.specs.NextMessage.{Message as Is, Stops}
 use Rattle.messages.specs.Steps.{next_answer}
 use Rattle.messages.proofs.SoFar.{Told, told, stopped, SoFar, begin, step, step_less, step-inside, step-stops, step_end}
-use Rattle.laying.specs.declared.Counted.TheVariants.{All, Stopped}
+use Rattle.laying.specs.Counted.{All, Stopped}
 use Rattle.laying.specs.Counts.{Counts, counts, breaks}
 use Rattle.laying.proofs.Inside.{stops-inside}
 

@@ -17,8 +17,8 @@ use Rattle.desk.specs.Messages.{Keyed, is_keyed, Message, next_of, Split, whole,
 use Rattle.batches.proofs.Bytes.{length-rows, length-rows_of}
 use Rattle.batches.proofs.Onward.{ontos, ontos-whole, ontos-broken, rows-one}
 use Rattle.row.specs.Ranks.{row_count}
-use Rattle.messages.specs.declared.NextMessage.{NextMessage}
-use Rattle.messages.specs.declared.NextMessage.TheVariants.{Message as Is, Stops}
+use Rattle.messages.specs.NextMessage.{NextMessage}
+use Rattle.messages.specs.NextMessage.{Message as Is, Stops}
 use Rattle.messages.specs.Steps.{next_answer}
 use Rattle.messages.proofs.SoFar.{Told, told, stopped, SoFar, begin, one_more, step, step_less, step-inside, step-stops, step_end}
 use Rattle.laying.specs.Counts.{Whole, rows_for}

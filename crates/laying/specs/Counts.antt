@@ -8,8 +8,8 @@ use Rattle.wire.specs.Numbers.{little_bytes}
 use Rattle.desk.specs.Batch.{offsets_fit}
 use Rattle.batches.specs.Fit.{RowsFit}
 use Rattle.sorting.specs.Sorted.{sorted_bytes}
-use Rattle.laying.specs.declared.Counted.{Counted}
-use Rattle.laying.specs.declared.Counted.TheVariants.{All, Stopped}
+use Rattle.laying.specs.Counted.{Counted}
+use Rattle.laying.specs.Counted.{All, Stopped}
 
 -- so many messages, whose offsets fit exactly if the last one's does; or where they break off
 pub data Counts : Split → Counted → Type 0 where

@@ -10,23 +10,23 @@ ghost use Rattle.messages.specs.Fields.{keys_of, KeyedBy};
 ghost use Rattle.laying.specs.Counts.{Counts, Whole, rows_for, ending, Laid, batch_for};
 
 use desk::Row;
-use messages::{Fields, NextMessage};
-use wire::{Layout, Refusal};
+use messages::Fields;
+use wire::{Layout, RefusedAt};
+
+// How many rows were laid, and where the last of them stands.
+#[derive(Clone, Copy)]
+pub struct Tally {
+    pub count: usize,
+    pub last: usize,
+}
 
 // The largest offset that a row has bytes for, and the most rows whose distance has.
 const FARTHEST: usize = 4294967295;
 
 const MOST: usize = 268435455;
 
-// How many messages some bytes are, and where the last of them begins; or the reader's own refusal, at its place in all the bytes.
-#[derive(Clone, Copy)]
-pub enum Counted {
-    All { count: usize, last: usize },
-    Stopped { why: Refusal, place: usize },
-}
-
 // Counts the messages of some bytes.
-pub fn count(table: &[u8], l: Layout, f: Fields, bytes: &[u8]) -> Counted
+pub fn count(table: &[u8], l: Layout, f: Fields, bytes: &[u8]) -> Result<Tally, RefusedAt>
     requires { KeyedBy table.now l f }
     ensures { Counts (split (keys_of table.now l f) bytes.now) result }
 {
@@ -34,30 +34,28 @@ pub fn count(table: &[u8], l: Layout, f: Fields, bytes: &[u8]) -> Counted
     let mut many = 0;
     let mut last = 0;
     while at < bytes.len() {
-        let next = messages::next(table, l, f, &bytes[at..]);
-        match next {
-            NextMessage::Stops { why, place } => {
-                let there = at + place;
-                return Counted::Stopped { why, place: there };
+        match messages::next(table, l, f, &bytes[at..]) {
+            Err(refused) => {
+                return Err(RefusedAt {
+                    why: refused.why,
+                    place: at + refused.place,
+                });
             }
-            NextMessage::Message { key: _, len } => {
+            Ok(message) => {
                 last = at;
-                at = at + len;
+                at = at + message.len;
                 many = many + 1;
             }
         }
     }
-    Counted::All { count: many, last }
+    Ok(Tally { count: many, last })
 }
 
 // Whether an offset, a count of rows and their distance fit their fields.
 pub fn sizes_fit(count: usize, last: usize) -> bool
     ensures { result ≡ both (ltb last (2 ^ 32)) (both (ltb count (2 ^ 32)) (ltb (16 * count) (2 ^ 32))) }
 {
-    if last <= FARTHEST {
-        return count <= MOST;
-    }
-    false
+    last <= FARTHEST && count <= MOST
 }
 
 // Puts a row for each message, in the messages' order.
@@ -69,14 +67,16 @@ pub fn put_rows(table: &[u8], l: Layout, f: Fields, bytes: &[u8], rows: &mut [u8
     let mut at = 0;
     let mut many = 0;
     while at < bytes.len() {
-        let next = messages::next(table, l, f, &bytes[at..]);
-        let NextMessage::Message { key, len } = next else {
+        let Ok(message) = messages::next(table, l, f, &bytes[at..]) else {
             return;
         };
         let offset = at as u64;
-        let row = Row { key, offset };
+        let row = Row {
+            key: message.key,
+            offset,
+        };
         row::put(rows, many, row);
-        at = at + len;
+        at = at + message.len;
         many = many + 1;
     }
 }

@@ -11,8 +11,8 @@ use lib.Dec.{eqb}
 use borrow.Author.Tests.{lt-ltb, le-ltb, not-true}
 use Rattle.wire.specs.declared.Refusal.TheVariants.{End, Record}
 use Rattle.wire.specs.declared.Own.{Own}
-use Rattle.wire.specs.declared.Item.{Item}
-use Rattle.wire.specs.declared.Item.TheVariants.{Took, Refused}
+use Rattle.wire.specs.Item.{Item}
+use Rattle.wire.specs.Item.{Took, Refused}
 use Rattle.wire.specs.Tests.{pick, both}
 use Rattle.wire.specs.Shape.{w64, Order, unsigned, unit, fixed, Content, Kind, plain, pooled, option, sequence, map, struct, enum}
 use Rattle.wire.specs.Table.{kinds, is_kind, kind_of}

@@ -1,31 +1,24 @@
 // What differs between two messages: as pairs of places, and in words.
 use crate::tree::say_bad;
-use say::{say, say_why, say_with};
+use say::Why;
 use std::io;
-use wire::Refusal;
+use wire::{Refusal, RefusedAt};
 
 // Why a comparison is refused: the table isn't good, or else the message of that name isn't.
-pub fn say_refused(rt: &impl Print, name: &[u8], why: Refusal, place: usize) -> io::Result<()> {
+pub fn say_refused(rt: &impl Print, name: &str, refused: RefusedAt) -> io::Result<()> {
+    let RefusedAt { why, place } = refused;
     match why {
-        Refusal::Trailer | Refusal::Record => say_bad(rt, why, place),
-        _ => {
-            say(rt, name)?;
-            say(rt, b": refused: ")?;
-            say_why(rt, why, b", at byte #\n", place)
-        }
+        Refusal::Trailer | Refusal::Record => say_bad(rt, refused),
+        _ => println!(rt; "{name}: refused: {}, at byte {place}", Why(why)),
     }
 }
 
 // So many pairs of places, each on a line.
 pub fn say_pairs(rt: &impl Print, list: &[u64], count: usize) -> io::Result<()> {
-    let mut rest = list;
-    for _ in 0..count {
-        if rest.len() < 2 {
-            return Ok(());
+    for pair in list.chunks_exact(2).take(count) {
+        if let [one, other] = pair {
+            println!(rt; "{one} {other}")?;
         }
-        say_with(rt, b"# ", rest[0])?;
-        say_with(rt, b"#\n", rest[1])?;
-        rest = &rest[2..];
     }
     Ok(())
 }
@@ -34,13 +27,8 @@ pub fn say_pairs(rt: &impl Print, list: &[u64], count: usize) -> io::Result<()> 
 // shares its place stands before it.
 #[tactic(auto, unfolding(wire::specs::Answers::room_of))]
 fn last_at(made: &[u64], from: usize, place: u64) -> usize {
-    let count = entry::room(made.len());
     let mut at = from;
-    while at < count {
-        let next = at + 1;
-        if next == count {
-            return at;
-        }
+    for next in from.saturating_add(1)..entry::room(made.len()) {
         if place < entry::place(made, next) {
             return at;
         }
@@ -71,16 +59,13 @@ pub fn line_up(
     other: &[u8],
     lined: &mut [u64],
 ) {
-    let mut rest = list;
     let mut at = 0;
     let mut there = 0;
-    for _ in 0..count {
-        if rest.len() < 2 {
-            return;
+    for pair in list.chunks_exact(2).take(count) {
+        if let [here, beside] = pair {
+            at = last_at(made, at, *here);
+            there = last_at(others, there, *beside);
+            line_up_one(others, there, other, lined, at);
         }
-        at = last_at(made, at, rest[0]);
-        there = last_at(others, there, rest[1]);
-        line_up_one(others, there, other, lined, at);
-        rest = &rest[2..];
     }
 }

@@ -1,50 +1,47 @@
 // One item of a message, found by its path.
 ghost use Rattle.laws.specs.Tables.{GoodTable};
 
-use crate::names::say_kind;
-use crate::path::{DEEPEST, node_at};
+use crate::names::Kind;
+use crate::path::node_at;
 use crate::tree::say_bad;
-use crate::value::say_value;
-use desk::FindAnswer;
-use say::{say, say_why, say_with};
+use crate::value::{Value, say_value};
+use desk::{Found, NotFound};
+use say::Why;
 use std::io;
-use wire::{Checked, Layout};
+use wire::Layout;
 
-fn show_by(
+fn show_found(
     rt: &impl Print,
     table: &[u8],
     l: Layout,
-    path: &[u64; DEEPEST],
-    depth: usize,
+    path: &[u64],
     message: &[u8],
-    answer: FindAnswer,
+    found: Found,
 ) -> io::Result<()>
     requires { GoodTable table.now l }
 {
-    match answer {
-        FindAnswer::Found {
-            first,
-            second,
-            place,
-        } => {
-            say(rt, b"root")?;
-            let node = node_at(rt, table, l, path, depth, true)?;
-            let number = table::kind_at(table, l, node);
-            say(rt, b": ")?;
-            say_kind(rt, number)?;
-            say_value(rt, number, 0, first, second, message)?;
-            say_with(rt, b", at byte #\n", place as u64)
-        }
-        FindAnswer::NoItem => say(rt, b"refused: 13, the path leads to no single value\n"),
-        FindAnswer::Absent { place } => say_with(
-            rt,
-            b"refused: 14, an option on the path is absent, at byte #\n",
-            place as u64,
+    print!(rt; "root")?;
+    let node = node_at(rt, table, l, path, true)?;
+    let kind = Kind(table::kind_at(table, l, node));
+    print!(rt; ": {kind}")?;
+    let value = Value {
+        kind,
+        width: 0,
+        first: found.first,
+        second: found.second,
+        message,
+    };
+    say_value(rt, value)?;
+    println!(rt; ", at byte {}", found.place)
+}
+
+fn show_none(rt: &impl Print, none: NotFound) -> io::Result<()> {
+    match none {
+        NotFound::NoItem => println!(rt; "refused: 13, the path leads to no single value"),
+        NotFound::Absent { place } => println!(rt;
+            "refused: 14, an option on the path is absent, at byte {place}"
         ),
-        FindAnswer::Refused { why, place } => {
-            say(rt, b"refused: ")?;
-            say_why(rt, why, b", at byte #\n", place)
-        }
+        NotFound::Refused { why, place } => println!(rt; "refused: {}, at byte {place}", Why(why)),
     }
 }
 
@@ -52,13 +49,15 @@ fn show_by(
 pub fn show(
     rt: &impl Print,
     table: &[u8],
-    path: &[u64; DEEPEST],
-    depth: usize,
+    path: &[u64],
     message: &[u8],
-    answer: FindAnswer,
+    answer: Result<Found, NotFound>,
 ) -> io::Result<()> {
     match table::check(table) {
-        Checked::Bad { why, place } => say_bad(rt, why, place),
-        Checked::Good { layout } => show_by(rt, table, layout, path, depth, message, answer),
+        Err(bad) => say_bad(rt, bad),
+        Ok(layout) => match answer {
+            Ok(found) => show_found(rt, table, layout, path, message, found),
+            Err(none) => show_none(rt, none),
+        },
     }
 }

@@ -5,7 +5,7 @@ pub mod apart;
 pub mod changes;
 pub mod entries;
 pub mod found;
-mod line;
+pub mod line;
 mod names;
 mod parts;
 mod path;

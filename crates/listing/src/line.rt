@@ -2,132 +2,123 @@
 ghost use Rattle.std.specs.Prelude.{◌≤◌, ◌<◌};
 ghost use Rattle.wire.specs.Answers.{room_of};
 
-use crate::names::say_kind;
-use crate::value::say_value;
-use crate::way::{WORDS, say_end, say_way};
-use say::{front, indent, say, say_bytes, say_with};
+use crate::names::Kind;
+use crate::value::{Value, say_value};
+use crate::way::{Last, Way, Whole};
+use say::{Hex, Indent};
 use std::io;
 
-// What a reading left to show: so many entries, whether their bytes too, and where the last one's end.
+// What a reading left to show: so many entries, and, if their own bytes are shown too, where the last one's end.
 #[derive(Clone, Copy)]
 pub struct Made {
     pub count: usize,
-    pub bytes: bool,
-    pub end: usize,
+    pub end: Option<usize>,
 }
 
-// The bytes from one place up to another; none where there are no such.
-fn between<'a>(message: &'a [u8], from: usize, to: usize) -> &'a [u8] {
-    if to <= from {
-        return &message[0..0];
+// Another message, and its entries where they differ from those of the shown one.
+#[derive(Clone, Copy)]
+pub struct Beside<'a> {
+    pub lined: &'a [u64],
+    pub message: &'a [u8],
+}
+
+// A message, its entries and those that were made; and another one, if only what differs is to be shown.
+#[derive(Clone, Copy)]
+pub struct Shown<'a> {
+    pub words: &'a [u64],
+    pub made: Made,
+    pub message: &'a [u8],
+    pub beside: Option<Beside<'a>>,
+}
+
+// An item of a kind with so many children, by the number of its entry and its depth below the root.
+#[derive(Clone, Copy)]
+pub struct Item {
+    pub kind: Kind,
+    pub width: usize,
+    pub at: usize,
+    pub depth: usize,
+}
+
+// The kind and the value of an item, as a message's entries have it.
+fn say_item(rt: &impl Print, item: Item, words: &[u64], message: &[u8]) -> io::Result<()>
+    requires { item.at < room_of words.now }
+{
+    let Item {
+        kind,
+        width,
+        at,
+        ..
+    } = item;
+    print!(rt; "{kind}")?;
+    let value = Value {
+        kind,
+        width,
+        first: entry::first(words, at),
+        second: entry::second(words, at),
+        message,
+    };
+    say_value(rt, value)
+}
+
+// The place of an item, and its own bytes: those up to the next item's place, or to where the reading ended.
+fn say_own(rt: &impl Print, shown: Shown, at: usize, end: usize) -> io::Result<()>
+    requires { (at < shown.made.count) × (shown.made.count ≤ room_of shown.words.now) }
+{
+    let from = entry::place(shown.words, at);
+    let next = at + 1;
+    let to = if next < shown.made.count {
+        entry::place(shown.words, next) as usize
+    } else {
+        end
+    };
+    let own = shown.message.get(from as usize..to).unwrap_or(&[]);
+    print!(rt; ", at byte {from}:{}", Hex(own))
+}
+
+// An item on a line of its own, indented as the shape is.
+fn say_line(rt: &impl Print, shown: Shown, item: Item, way: &Way) -> io::Result<()>
+    requires { (item.at < shown.made.count) × (shown.made.count ≤ room_of shown.words.now) }
+{
+    print!(rt; "{}{}: ", Indent(item.depth), Last(way, item.depth))?;
+    say_item(rt, item, shown.words, shown.message)?;
+    if let Some(end) = shown.made.end {
+        say_own(rt, shown, item.at, end)?;
     }
-    front(tail::from(message, from), to - from)
+    print!(rt; "\n")
 }
 
-// The place of the item of the entry `at`, and its own bytes: those up to the next item's place, or to where the reading ended.
-fn say_own(rt: &impl Print, words: &[u64], made: Made, message: &[u8], at: usize) -> io::Result<()>
-    requires { (at < made.count) × (made.count ≤ room_of words.now) }
-{
-    if made.bytes {
-        let from = entry::place(words, at);
-        let mut to = made.end;
-        let next = at + 1;
-        if next < made.count {
-            to = entry::place(words, next) as usize;
-        }
-        say_with(rt, b", at byte #:", from)?;
-        say_bytes(rt, between(message, from as usize, to))?;
-    }
-    Ok(())
-}
-
-// The kind and the value of the item of the entry `at`.
-fn say_item(
-    rt: &impl Print,
-    number: u8,
-    width: usize,
-    words: &[u64],
-    message: &[u8],
-    at: usize,
-) -> io::Result<()>
-    requires { at < room_of words.now }
-{
-    say_kind(rt, number)?;
-    let first = entry::first(words, at);
-    let second = entry::second(words, at);
-    say_value(rt, number, width, first, second, message)
-}
-
-// The item of the entry `at` on a line of its own, indented as the shape is.
-fn say_line(
-    rt: &impl Print,
-    number: u8,
-    width: usize,
-    way: &[u64; WORDS],
-    depth: usize,
-    words: &[u64],
-    made: Made,
-    message: &[u8],
-    at: usize,
-) -> io::Result<()>
-    requires { (at < made.count) × (made.count ≤ room_of words.now) }
-{
-    indent(rt, depth)?;
-    say_end(rt, way, depth)?;
-    say(rt, b": ")?;
-    say_item(rt, number, width, words, message, at)?;
-    say_own(rt, words, made, message, at)?;
-    say(rt, b"\n")
-}
-
-// The item of the entry `at` under its way, and what the other message has there, if they differ.
+// An item under its way, and what the other message has there, if they differ.
 fn say_change(
     rt: &impl Print,
-    number: u8,
-    width: usize,
-    way: &[u64; WORDS],
-    depth: usize,
-    words: &[u64],
-    message: &[u8],
-    lined: &[u64],
-    other: &[u8],
-    at: usize,
+    shown: Shown,
+    beside: Beside,
+    item: Item,
+    way: &Way,
 ) -> io::Result<()>
-    requires { (at < room_of words.now) × (at < room_of lined.now) }
+    requires { (item.at < room_of shown.words.now) × (item.at < room_of beside.lined.now) }
 {
-    let there = entry::place(lined, at);
+    let here = entry::place(shown.words, item.at);
+    let there = entry::place(beside.lined, item.at);
     if 0 < there {
-        say_way(rt, way, depth)?;
-        say(rt, b":\n  one: ")?;
-        say_item(rt, number, width, words, message, at)?;
-        say_with(rt, b", at byte #\n  other: ", entry::place(words, at))?;
-        say_item(rt, number, width, lined, other, at)?;
-        say_with(rt, b", at byte #\n", there - 1)?;
+        print!(rt; "{}:\n  one: ", Whole(way, item.depth))?;
+        say_item(rt, item, shown.words, shown.message)?;
+        print!(rt; ", at byte {here}\n  other: ")?;
+        say_item(rt, item, beside.lined, beside.message)?;
+        println!(rt; ", at byte {}", there - 1)?;
     }
     Ok(())
 }
 
-// What is said of the entry `at`. Where another message's entries are lined up with these, only what differs is.
+// What is said of an item. Where another message's entries are lined up with these, only what differs is.
 #[tactic(auto, unfolding(wire::specs::Answers::room_of))]
-pub fn say_entry(
-    rt: &impl Print,
-    number: u8,
-    width: usize,
-    way: &[u64; WORDS],
-    depth: usize,
-    words: &[u64],
-    made: Made,
-    message: &[u8],
-    lined: &[u64],
-    other: &[u8],
-    at: usize,
-) -> io::Result<()>
-    requires { (at < made.count) × (made.count ≤ room_of words.now) }
+pub fn say_entry(rt: &impl Print, shown: Shown, item: Item, way: &Way) -> io::Result<()>
+    requires { (item.at < shown.made.count) × (shown.made.count ≤ room_of shown.words.now) }
 {
-    if at < entry::room(lined.len()) {
-        return say_change(
-            rt, number, width, way, depth, words, message, lined, other, at,
-        );
+    if let Some(beside) = shown.beside {
+        if item.at < entry::room(beside.lined.len()) {
+            return say_change(rt, shown, beside, item, way);
+        }
     }
-    say_line(rt, number, width, way, depth, words, made, message, at)
+    say_line(rt, shown, item, way)
 }

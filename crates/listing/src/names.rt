@@ -1,40 +1,112 @@
 // The names of kinds, and of a child's position under its parent.
-use say::{part, say_part, say_with};
-use std::io;
+use std::fmt;
 
-// A kind's name, by its number.
-pub fn say_kind(rt: &impl Print, number: u8) -> io::Result<()> {
-    let names =
-        b"bool;i8;i16;i32;i64;u8;u16;u32;u64;f32;f64;char;text;bytes;unit;option;sequence;map;struct;enum;\
-        fixed i16 little-endian;fixed i32 little-endian;fixed i64 little-endian;\
-        fixed u16 little-endian;fixed u32 little-endian;fixed u64 little-endian;\
-        fixed i16 big-endian;fixed i32 big-endian;fixed i64 big-endian;\
-        fixed u16 big-endian;fixed u32 big-endian;fixed u64 big-endian";
-    say_part(rt, names, number as usize)
-}
+// A kind, by its number in a table.
+#[derive(Clone, Copy)]
+pub struct Kind(pub u8);
 
-// Which name a kind's child has: a map's value the last of six, a child of another kind its parent's.
-pub fn name_of(number: u8, k: u64) -> usize {
-    match number {
-        17 => (k % 2 * 3 + 2) as usize,
-        15 | 16 | 18 | 19 => (number - 15) as usize,
-        _ => 6,
+impl fmt::Display for Kind {
+    fn fmt<W: fmt::Write>(&self, f: &mut fmt::Formatter<W>) -> fmt::Result {
+        let name = match self.0 {
+            0 => "bool",
+            1 => "i8",
+            2 => "i16",
+            3 => "i32",
+            4 => "i64",
+            5 => "u8",
+            6 => "u16",
+            7 => "u32",
+            8 => "u64",
+            9 => "f32",
+            10 => "f64",
+            11 => "char",
+            12 => "text",
+            13 => "bytes",
+            14 => "unit",
+            15 => "option",
+            16 => "sequence",
+            17 => "map",
+            18 => "struct",
+            19 => "enum",
+            20 => "fixed i16 little-endian",
+            21 => "fixed i32 little-endian",
+            22 => "fixed i64 little-endian",
+            23 => "fixed u16 little-endian",
+            24 => "fixed u32 little-endian",
+            25 => "fixed u64 little-endian",
+            26 => "fixed i16 big-endian",
+            27 => "fixed i32 big-endian",
+            28 => "fixed i64 big-endian",
+            29 => "fixed u16 big-endian",
+            30 => "fixed u32 big-endian",
+            31 => "fixed u64 big-endian",
+            _ => "",
+        };
+        write!(f, "{name}")
     }
 }
 
-// A child's position in the shape: a field or a variant has a number there.
-pub fn say_child(rt: &impl Print, number: u8, k: u64) -> io::Result<()> {
-    let names = b"content;element;key;field #;variant #;value";
-    say_with(rt, part(names, name_of(number, k)), k)
+// How an item of a kind holds others.
+#[derive(Clone, Copy)]
+pub enum Form {
+    Leaf,
+    Option,
+    Sequence,
+    Map,
+    Struct,
+    Enum,
 }
 
-// The number that a child's position has in a message: there a sequence's elements and a map's pairs are counted, by rounds.
-pub fn count_of(number: u8, round: u64, k: u64) -> u64 {
-    if number < 18 { round } else { k }
+impl From<Kind> for Form {
+    fn from(kind: Kind) -> Form {
+        match kind.0 {
+            15 => Form::Option,
+            16 => Form::Sequence,
+            17 => Form::Map,
+            18 => Form::Struct,
+            19 => Form::Enum,
+            _ => Form::Leaf,
+        }
+    }
 }
 
-// A position in a message, by its name and its number.
-pub fn say_position(rt: &impl Print, name: usize, n: u64) -> io::Result<()> {
-    let names = b"content;element #;key #;field #;variant #;value #";
-    say_with(rt, part(names, name), n)
+// A child's position under its parent; a leaf has no child.
+#[derive(Clone, Copy)]
+pub enum Position {
+    Content,
+    Element,
+    Key,
+    Value,
+    Field(u64),
+    Variant(u64),
+    Nowhere,
+}
+
+impl Position {
+    // The position of the child k of an item of a kind.
+    pub fn of(kind: Kind, k: u64) -> Position {
+        match Form::from(kind) {
+            Form::Leaf => Position::Nowhere,
+            Form::Option => Position::Content,
+            Form::Sequence => Position::Element,
+            Form::Map if k % 2 == 0 => Position::Key,
+            Form::Map => Position::Value,
+            Form::Struct => Position::Field(k),
+            Form::Enum => Position::Variant(k),
+        }
+    }
+}
+
+impl fmt::Display for Position {
+    fn fmt<W: fmt::Write>(&self, f: &mut fmt::Formatter<W>) -> fmt::Result {
+        match self {
+            Position::Content => write!(f, "content"),
+            Position::Element => write!(f, "element"),
+            Position::Key => write!(f, "key"),
+            Position::Value => write!(f, "value"),
+            Position::Field(k) => write!(f, "field {k}"),
+            Position::Variant(k) => write!(f, "variant {k}"),
+            Position::Nowhere => Ok(()),
+        }
+    }
 }

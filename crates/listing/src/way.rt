@@ -1,43 +1,78 @@
-// The way from a message's root down to an item: at each level the position of the next item, by its name and its number.
-use crate::names::{count_of, name_of, say_position};
+// The way from a message's root down to an item: at each level the position of the next item.
+use crate::names::Position;
 use crate::path::DEEPEST;
-use say::say;
-use std::io;
+use std::fmt;
 
-// Two words a level.
-pub const WORDS: usize = 2 * DEEPEST;
+// A position in a message: there a sequence's elements and a map's pairs are counted, by rounds.
+#[derive(Clone, Copy)]
+pub struct Step {
+    pub position: Position,
+    pub round: u64,
+}
 
-// Keeps a level's position: in an item of a kind, the child k of a round.
-pub fn keep(way: &mut [u64; WORDS], level: usize, number: u8, round: u64, k: u64) {
-    if level < DEEPEST {
-        let at = 2 * level;
-        way[at] = name_of(number, k) as u64;
-        way[at + 1] = count_of(number, round, k);
+impl fmt::Display for Step {
+    fn fmt<W: fmt::Write>(&self, f: &mut fmt::Formatter<W>) -> fmt::Result {
+        let Step { position, round } = *self;
+        match position {
+            Position::Element | Position::Key | Position::Value => write!(f, "{position} {round}"),
+            _ => write!(f, "{position}"),
+        }
     }
 }
 
-fn say_level(rt: &impl Print, way: &[u64; WORDS], level: usize) -> io::Result<()> {
-    if level < DEEPEST {
-        let at = 2 * level;
-        say_position(rt, way[at] as usize, way[at + 1])?;
-    }
-    Ok(())
+// A step for each level.
+#[derive(Drop)]
+pub struct Way {
+    steps: [Step; DEEPEST],
 }
 
-// The way's last position; the root has none.
-pub fn say_end(rt: &impl Print, way: &[u64; WORDS], depth: usize) -> io::Result<()> {
-    if depth == 0 {
-        return say(rt, b"root");
+impl Way {
+    pub fn new() -> Way {
+        let step = Step {
+            position: Position::Nowhere,
+            round: 0,
+        };
+        Way {
+            steps: [step; DEEPEST],
+        }
     }
-    say_level(rt, way, depth - 1)
+
+    // Keeps a level's step.
+    pub fn keep(&mut self, level: usize, step: Step) {
+        if let Some(kept) = self.steps.get_mut(level) {
+            *kept = step;
+        }
+    }
+
+    // The first so many steps.
+    fn front(&self, depth: usize) -> &[Step] {
+        self.steps.get(..depth).unwrap_or(&self.steps)
+    }
+}
+
+// The way's last step; the root has none.
+#[derive(Clone, Copy)]
+pub struct Last<'a>(pub &'a Way, pub usize);
+
+impl<'a> fmt::Display for Last<'a> {
+    fn fmt<W: fmt::Write>(&self, f: &mut fmt::Formatter<W>) -> fmt::Result {
+        match self.0.front(self.1).last() {
+            Some(step) => write!(f, "{step}"),
+            None => write!(f, "root"),
+        }
+    }
 }
 
 // The whole way, from the root down.
-pub fn say_way(rt: &impl Print, way: &[u64; WORDS], depth: usize) -> io::Result<()> {
-    say(rt, b"root")?;
-    for level in 0..depth {
-        say(rt, b", ")?;
-        say_level(rt, way, level)?;
+#[derive(Clone, Copy)]
+pub struct Whole<'a>(pub &'a Way, pub usize);
+
+impl<'a> fmt::Display for Whole<'a> {
+    fn fmt<W: fmt::Write>(&self, f: &mut fmt::Formatter<W>) -> fmt::Result {
+        write!(f, "root")?;
+        for step in self.0.front(self.1) {
+            write!(f, ", {step}")?;
+        }
+        Ok(())
     }
-    Ok(())
 }

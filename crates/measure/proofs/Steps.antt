@@ -3,8 +3,8 @@
 use Rattle.std.proofs.Common.{◌≡◌, ℕ, ltb, List, sym, ◌∙◌, arith}
 use Rattle.wire.specs.declared.Refusal.TheVariants.{BadVarint}
 use Rattle.wire.specs.declared.Own.{Own}
-use Rattle.wire.specs.declared.Item.{Item}
-use Rattle.wire.specs.declared.Item.TheVariants.{Took, Refused}
+use Rattle.wire.specs.Item.{Item}
+use Rattle.wire.specs.Item.{Took, Refused}
 use Rattle.wire.specs.Numbers.{varint_f}
 use Rattle.laws.specs.Range.{span, Taken}
 use Rattle.laws.proofs.Splits.{of-pick}

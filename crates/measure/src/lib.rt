@@ -1,37 +1,35 @@
 // Loops over the leaves, so that a driver can time them without a call for each item. No part of the library.
 #![tactic(auto)]
 
-use wire::Item;
+use varint::{U16, U32, U64, Width};
 
 // The sum of a message's varints, one after the other, up to the first that is refused.
-fn sum(message: &[u8], most: usize, last: u64) -> u64 {
+fn sum<W: Width>(message: &[u8]) -> u64 {
     let mut sum: u64 = 0;
     let mut rest = message;
     while 0 < rest.len() {
-        let got = varint::take(rest, most, last);
-        let Item::Took { own } = got else {
+        let Ok(own) = varint::take::<W>(rest) else {
             return sum;
         };
         sum = std::num::wrapping_add_u64(sum, own.first);
-        let used = own.used;
-        rest = &rest[used..];
+        rest = &rest[own.used..];
     }
     sum
 }
 
 #[unsafe(no_mangle)]
 pub extern "C" fn measure_u16(message: &[u8]) -> u64 {
-    sum(message, varint::U16::MOST, varint::U16::LAST)
+    sum::<U16>(message)
 }
 
 #[unsafe(no_mangle)]
 pub extern "C" fn measure_u32(message: &[u8]) -> u64 {
-    sum(message, varint::U32::MOST, varint::U32::LAST)
+    sum::<U32>(message)
 }
 
 #[unsafe(no_mangle)]
 pub extern "C" fn measure_u64(message: &[u8]) -> u64 {
-    sum(message, varint::U64::MOST, varint::U64::LAST)
+    sum::<U64>(message)
 }
 
 // 1 if a text is UTF-8.

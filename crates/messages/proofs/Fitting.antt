@@ -22,7 +22,7 @@ use Rattle.table.specs.Parts.{Falls}
 use Rattle.table.proofs.Stretches.{node-falls}
 use Rattle.desk.specs.Messages.{fields_of, is_of, has_field, store_kind, product_kind, Keyed, is_keyed}
 use Rattle.messages.specs.declared.Fields.{Fields}
-use Rattle.messages.specs.declared.Found.TheVariants.{At, Unfit}
+use Rattle.messages.specs.Found.{At, Unfit}
 use Rattle.messages.specs.Fields.{field_count, first_place, second_place, keys_of, key_width, IsKey, Ordered, Finds, found, unfit}
 
 -- ---- a field among children

@@ -11,8 +11,10 @@ use lib.Seq.{length-take-le}
 use lib.Dec.{eqb}
 use borrow.Author.Tests.{eq-eqb, ne_eqb}
 use Rattle.wire.specs.declared.Layout.{Layout}
+use Rattle.std.specs.Prelude.{Result, Ok, Err}
+use Rattle.wire.specs.declared.Reached.{Reached}
 use Rattle.wire.specs.declared.Refusal.{Refusal}
-use Rattle.wire.specs.declared.ReadAnswer.TheVariants.{Done, Refused as NotRead}
+use Rattle.wire.specs.declared.RefusedAt.{RefusedAt}
 use Rattle.wire.specs.Tests.{pick, both, decided}
 use Rattle.wire.specs.Shape.{struct, same_kind, node, Shapes, count}
 use Rattle.wire.specs.Walk.{following, times, along, walk, walks}
@@ -31,11 +33,12 @@ use Rattle.desk.specs.Rows.{same_key}
 use Rattle.desk.specs.Messages.{Keyed, Message as Sent, fields_of, word_at, key_of, skim, next, next_by, next_of}
 use Rattle.batches.proofs.Keys.{next-key}
 use Rattle.messages.specs.declared.Fields.{Fields}
-use Rattle.messages.specs.declared.Word.{Word}
-use Rattle.messages.specs.declared.Word.TheVariants.{Took, Refused}
-use Rattle.messages.specs.declared.NextMessage.TheVariants.{Message, Stops}
+use Rattle.messages.specs.Word.{Word}
+use Rattle.messages.specs.Word.{Took}
+use Rattle.messages.specs.declared.Begun.{Begun}
+use Rattle.messages.specs.NextMessage.{Message, Stops}
 use Rattle.messages.specs.Fields.{field_count, first_place, second_place, keys_of, key_by, HasKey, KeyedBy}
-use Rattle.messages.specs.Steps.{Goes, Words, took, not_taken, next_answer}
+use Rattle.messages.specs.Steps.{skimmed, Goes, Words, took, not_taken, next_answer, Begins, BeginsOr, begins, refuses}
 use Rattle.messages.proofs.Steps.{goes-as, goes_then, first-refused, then-refused, goes-read, row-split, skim-goes, skim-refused}
 use Rattle.messages.proofs.Words.{words-behind}
 
@@ -80,12 +83,12 @@ module _ (s : List ℕ) (l : Layout) (f : Fields) (bs : List ℕ) (kb : KeyedBy 
 
   -- ---- the first key field
 
-  refused-first : {e : Refusal} {p : ℕ} → Words s l f.from f.before 1 (front bs) (Refused e p) → Stops e p ≡ next_answer (next_of (keys_of s l f) bs)
+  refused-first : {e : RefusedAt} → Words s l f.from f.before 1 (front bs) (Err e) → Err e ≡ next_answer (next_of (keys_of s l f) bs)
   refused-first (not_taken q) =
       stopped (ap (λ r. (fit (most_entries - 1) r).ends) (first-split (front bs)) ∙ first-refused (row_of f.from (f.before + 1)) (row_of from₂ (f.between + 1 + f.behind)) 1 (front bs) q)
 
-  pub first_stops : {r : Word} {e : Refusal} {p : ℕ} → Words s l f.from f.before 1 (front bs) r → r ≡ Refused e p → Stops e p ≡ next_answer (next_of (keys_of s l f) bs)
-  first_stops {e} {p} w q = refused-first (rw q at w)
+  pub first_stops : {r : Word} {e : RefusedAt} → Words s l f.from f.before 1 (front bs) r → r ≡ Err e → Err e ≡ next_answer (next_of (keys_of s l f) bs)
+  first_stops w q = refused-first (rw q at w)
 
   record First (word p c : ℕ) : Type 0 where
     goes : Goes (row_of f.from (f.before + 1)) 1 (front bs) p c
@@ -113,14 +116,14 @@ module _ (s : List ℕ) (l : Layout) (f : Fields) (bs : List ℕ) (kb : KeyedBy 
     second-goes : {m n d : ℕ} (g : Spot → Run) → Goes g m (spot rest p) n d → Goes g m (past p (front bs)) n d
     second-goes g a = rw there a
 
-    refused-second : {e : Refusal} {q : ℕ} → Words s l from₂ f.between c (spot rest p) (Refused e q) → Stops e q ≡ next_answer (next_of (keys_of s l f) bs)
+    refused-second : {e : RefusedAt} → Words s l from₂ f.between c (spot rest p) (Err e) → Err e ≡ next_answer (next_of (keys_of s l f) bs)
     refused-second (not_taken q) =
         stopped
         (ap (λ r. (fit (most_entries - 1) r).ends) (first-split (front bs))
         ∙ then-refused (row_of f.from (f.before + 1)) (row_of from₂ (f.between + 1 + f.behind)) 1 (front bs) (first_of one).goes
         (rw there (ap (λ r. (fit (most_entries - c) r).ends) (second-split (spot rest p)) ∙ first-refused (row_of from₂ (f.between + 1)) (row_of from₃ f.behind) c (spot rest p) q)))
 
-    pub second-stops : {r : Word} {e : Refusal} {q : ℕ} → Words s l from₂ f.between c (spot rest p) r → r ≡ Refused e q → Stops e q ≡ next_answer (next_of (keys_of s l f) bs)
+    pub second-stops : {r : Word} {e : RefusedAt} → Words s l from₂ f.between c (spot rest p) r → r ≡ Err e → Err e ≡ next_answer (next_of (keys_of s l f) bs)
     second-stops w e = refused-second (rw e at w)
 
     record Second (word₂ q d : ℕ) : Type 0 where
@@ -160,7 +163,7 @@ module _ (s : List ℕ) (l : Layout) (f : Fields) (bs : List ℕ) (kb : KeyedBy 
           both-as : (g h : Spot → Run) {a b : ℕ} → g (front bs) ≡ h (front bs) → a ≡ b → read_then g (row_of a f.behind) (front bs) ≡ read_then h (row_of b f.behind) (front bs)
           both-as g h e at = unfold read_then in rw (e, at)
 
-      pub third-stops : {e : Refusal} {r k : ℕ} → NotRead e r k ≡ answer_behind d (fit (most_entries - d) (row_of from₃ f.behind (spot rest₂ q))) → Stops e r ≡ next_answer (next_of (keys_of s l f) bs)
+      pub third-stops : {e : RefusedAt} → Err e ≡ skimmed (answer_behind d (fit (most_entries - d) (row_of from₃ f.behind (spot rest₂ q)))) → Err e ≡ next_answer (next_of (keys_of s l f) bs)
       third-stops a =
           stopped (ap (λ r. (fit (most_entries - 1) r).ends) all_split ∙ then-refused (read_then (row_of f.from (f.before + 1)) (row_of from₂ (f.between + 1))) (row_of from₃ f.behind) 1 (front bs) both-goes (rw there₂ (skim-refused s l from₃ f.behind d (spot rest₂ q) a)))
 
@@ -189,17 +192,53 @@ module _ (s : List ℕ) (l : Layout) (f : Fields) (bs : List ℕ) (kb : KeyedBy 
       pub key-is : {own key : Key} {t : Bool} → own ≡ key_by f.ahead word word₂ → t ≡ same_key own key → HasKey (keys_of s l f) bs key t
       key-is {own} {key} e h = record { is = λ q. h ∙ ap (λ x. same_key x key) (e ∙ sym its-key ∙ next-key (keys_of s l f) bs q) }
 
-      pub message-is : {len k : ℕ} {key : Key} → Done len k ≡ answer_behind d (fit (most_entries - d) (row_of from₃ f.behind (spot rest₂ q))) → key ≡ key_by f.ahead word word₂
-          → Message key len ≡ next_answer (next_of (keys_of s l f) bs)
-      message-is {len} {k} {key} a e =
+      pub message-is : {r : Reached} {key : Key} → Ok r ≡ skimmed (answer_behind d (fit (most_entries - d) (row_of from₃ f.behind (spot rest₂ q)))) → key ≡ key_by f.ahead word word₂
+          → Message key r.place ≡ next_answer (next_of (keys_of s l f) bs)
+      message-is {r} {key} a e =
           let g = skim-goes s l from₃ f.behind d (spot rest₂ q) a in
-          let third : Goes (row_of from₃ f.behind) d (past q (front bs)) (len - q) k = rw there₂ g.2 in
+          let third : Goes (row_of from₃ f.behind) d (past q (front bs)) (r.place - q) r.count = rw there₂ g.2 in
           let w = goes_then (read_then (row_of f.from (f.before + 1)) (row_of from₂ (f.between + 1))) (row_of from₃ f.behind) 1 (front bs) both-goes third in
-          let n : q + (len - q) ≡ len = (let h = g.0 in omega arith) in
+          let n : q + (r.place - q) ≡ r.place = (let h = g.0 in omega arith) in
           ended (ap (λ r. r.ends) (ap (fit (most_entries - 1)) all_split ∙ w.ran) ∙ ap (λ n. reached (past n (front bs))) n) (rw n at w.inside)
         where
-          ended : (fit (most_entries - 1) (row_of f.from (field_count f) (front bs))).ends ≡ reached (past len (front bs)) → len ≤ length bs → Message key len ≡ next_answer (next_of (keys_of s l f) bs)
-          ended h few = unfold next_of next_by next_answer past in rw (all-skim ∙ h, its-key, e, zero-add len, length-take-le len bs few)
+          ended : (fit (most_entries - 1) (row_of f.from (field_count f) (front bs))).ends ≡ reached (past r.place (front bs)) → r.place ≤ length bs → Message key r.place ≡ next_answer (next_of (keys_of s l f) bs)
+          ended h few = unfold next_of next_by next_answer past in rw (all-skim ∙ h, its-key, e, zero-add r.place, length-take-le r.place bs few)
+
+      pub begun-both : {key : Key} → key ≡ key_by f.ahead word word₂ → Begins s l f bs (record { key = key; place = q; count = d })
+      begun-both e = record { one = word; other = word₂; place = p; count = c; first = one; second = two; its_key = e }
+
+  -- ---- as the code goes
+
+  pub begun-or : {r : Result Begun RefusedAt} {b : Begun} → BeginsOr s l f bs r → r ≡ Ok b → Begins s l f bs b
+  begun-or {b} w e = go (rw e at w)
+    where
+      go : BeginsOr s l f bs (Ok b) → Begins s l f bs b
+      go (begins k) = k
+
+  pub stops-or : {r : Result Begun RefusedAt} {e : RefusedAt} → BeginsOr s l f bs r → r ≡ Err e → Err e ≡ next_answer (next_of (keys_of s l f) bs)
+  stops-or {e} w q = go (rw q at w)
+    where
+      go : BeginsOr s l f bs (Err e) → Err e ≡ next_answer (next_of (keys_of s l f) bs)
+      go (refuses k) = k
+
+  module _ {b : Begun} (k : Begins s l f bs b) where
+    pub begun-inside : b.place ≤ length bs
+    begun-inside = second-inside k.first refl k.second refl
+
+    pub begun-key : {key : Key} {t : Bool} → t ≡ same_key b.key key → HasKey (keys_of s l f) bs key t
+    begun-key e = key-is k.first refl k.second refl k.its_key e
+
+    abbrev rest-answer : Result Reached RefusedAt
+    rest-answer = skimmed (answer_behind b.count (fit (most_entries - b.count) (row_of (f.from + 2 * (f.before + f.between + 2)) f.behind (spot (take (length bs - b.place) (drop b.place bs)) b.place))))
+
+    from-same : f.from + 2 * (f.before + f.between + 2) ≡ from₃
+    from-same = omega arith
+
+    pub finish-stops : {e : RefusedAt} → Err e ≡ rest-answer → Err e ≡ next_answer (next_of (keys_of s l f) bs)
+    finish-stops a = third-stops k.first refl k.second refl (rw from-same at a)
+
+    pub finish-message : {r : Reached} → Ok r ≡ rest-answer → Message b.key r.place ≡ next_answer (next_of (keys_of s l f) bs)
+    finish-message a = message-is k.first refl k.second refl (rw from-same at a) k.its_key
 
 -- ---- the same key
 
@@ -212,11 +251,11 @@ unfolding same_key both
 key-other a b ne = rw (ne_eqb a.store b.store ne)
 
 -- nothing is said where no message is read
-pub unread : (k : Keyed) (s : List ℕ) {key : Key} {t : Bool} {why : Refusal} {p : ℕ} → Stops why p ≡ next_answer (next_of k s) → HasKey k s key t
-unread k s {why} {p} a = record { is = λ {m} {rest} e. absurd (clash m rest e) }
+pub unread : (k : Keyed) (s : List ℕ) {key : Key} {t : Bool} {e : RefusedAt} → Err e ≡ next_answer (next_of k s) → HasKey k s key t
+unread k s {e = r} a = record { is = λ {m} {rest} e. absurd (clash m rest e) }
   where
     clash : (m : Sent) (rest : List ℕ) → next_of k s ≡ next m rest → ⊥
-    clash m rest e = unfold next_answer in (let z : Stops why p ≡ Message m.key (length m.bytes) = a ∙ ap next_answer e in let y : ◌≡◌ {A = ℕ} 0 1 = cc in omega arith)
+    clash m rest e = unfold next_answer in (let z : Err r ≡ Message m.key (length m.bytes) = a ∙ ap next_answer e in let y : ◌≡◌ {A = ℕ} 0 1 = cc in omega arith)
 
 -- ---- what the code requires
 

@@ -12,8 +12,10 @@ use Rattle.desk.specs.declared.Key.{Key}
 use Rattle.desk.specs.Messages.{Keyed, is_keyed, Message, Cut, next, stops, next_of, whole, broken, onto, split_on, split, joined}
 use Rattle.batches.proofs.Ends.{next-joins, next-length}
 use Rattle.batches.proofs.Onward.{next-some, split-on, split-none, ontos, ontos-one, ontos-whole, ontos-broken, joined-one}
-use Rattle.messages.specs.declared.NextMessage.{NextMessage}
-use Rattle.messages.specs.declared.NextMessage.TheVariants.{Message as Is, Stops}
+use Rattle.wire.specs.declared.RefusedAt.{RefusedAt}
+use Rattle.messages.specs.declared.Message as message
+use Rattle.messages.specs.NextMessage.{NextMessage}
+use Rattle.messages.specs.NextMessage.{Message as Is, Stops}
 use Rattle.messages.specs.Steps.{next_answer}
 
 -- ---- what the code is told
@@ -29,7 +31,10 @@ pub told : (k : Keyed) (s : List ℕ) {r : NextMessage} {key : Key} {len : ℕ} 
 told k s {r} {key} {len} e q = go (next_of k s) refl (sym q ∙ e)
   where
     go : (c : Cut) → next_of k s ≡ c → Is key len ≡ next_answer c → Told k s key len
-    go (next m rest) a z = unfold next_answer in record { message = m; rest = rest; is = a; its-key = cc; its-length = cc }
+    go (next m rest) a z =
+        unfold next_answer in
+        (let same : ◌≡◌ {A = message.Message} (record { key = key; len = len }) (record { key = m.key; len = length m.bytes }) = cc in
+        record { message = m; rest = rest; is = a; its-key = sym (ap (λ r. r.key) same); its-length = sym (ap (λ r. r.len) same) })
     go (stops why p) a z = unfold next_answer in (let z : ◌≡◌ {A = ℕ} 0 1 = cc in absurd (omega arith))
 
 pub stopped : (k : Keyed) (s : List ℕ) {r : NextMessage} {why : Refusal} {p : ℕ} → r ≡ next_answer (next_of k s) → r ≡ Stops why p → next_of k s ≡ stops why p
@@ -37,7 +42,9 @@ stopped k s {r} {why} {p} e q = go (next_of k s) refl (sym q ∙ e)
   where
     go : (c : Cut) → next_of k s ≡ c → Stops why p ≡ next_answer c → next_of k s ≡ stops why p
     go (next m rest) a z = unfold next_answer in (let z : ◌≡◌ {A = ℕ} 0 1 = cc in absurd (omega arith))
-    go (stops w x) a z = unfold next_answer in (a ∙ cc)
+    go (stops w x) a z =
+        unfold next_answer in
+        (let same : ◌≡◌ {A = RefusedAt} (record { why = why; place = p }) (record { why = w; place = x }) = cc in a ∙ sym (ap (λ r. stops r.why r.place) same))
 
 -- ---- the messages so far
 

@@ -8,9 +8,15 @@ use native.Mathlib.Nat.{add-zero, zero-add}
 use native.Mathlib.Omega.{arith}
 use lib.ListN.{length, length-append, length-drop}
 use Rattle.wire.specs.declared.Layout.{Layout}
+use Rattle.std.specs.Prelude.{Result, Ok, Err}
+use Rattle.std.specs.Result.{MatchResult, IsErrAnd}
+use Rattle.std.proofs.lemmas.Result.{err_from_is_err_and}
+use Rattle.wire.specs.declared.Reached.{Reached}
 use Rattle.wire.specs.declared.Refusal.{Refusal}
-use Rattle.wire.specs.declared.ReadAnswer.TheVariants.{Done, Refused}
-use Rattle.wire.specs.declared.Item.{Item}
+use Rattle.wire.specs.declared.RefusedAt.{RefusedAt}
+use Rattle.wire.specs.declared.Stopped.{Stopped}
+use Rattle.wire.specs.ReadAnswer.{ReadAnswer}
+use Rattle.wire.specs.Item.{Item}
 use Rattle.wire.specs.Shape.{w32, w64}
 use Rattle.wire.specs.Walk.{all, walk, walks}
 use Rattle.wire.specs.Table.{u16_at, shapes_at}
@@ -29,7 +35,7 @@ use Rattle.desk.specs.Path.{most_entries}
 use Rattle.varint.specs.Takes.{takes}
 use Rattle.varint.proofs.Reading.{at_width}
 use Rattle.messages.specs.Fields.{key_width, key_by}
-use Rattle.messages.specs.Steps.{Goes}
+use Rattle.messages.specs.Steps.{skimmed, Goes}
 
 -- ---- one step and another
 
@@ -104,17 +110,18 @@ module _ (s : List ℕ) (l : Layout) where
   -- ---- a skim's answer
 
   module _ (from width m : ℕ) (x : Spot) where
-    pub skim-refused : {e : Refusal} {p c : ℕ} → Refused e p c ≡ answer_behind m (fit (most_entries - m) (row_of from width x)) → (fit (most_entries - m) (row_of from width x)).ends ≡ refused e p
+    pub skim-refused : {e : RefusedAt} → Err e ≡ skimmed (answer_behind m (fit (most_entries - m) (row_of from width x))) → (fit (most_entries - m) (row_of from width x)).ends ≡ refused e.why e.place
     unfolding answer_behind
-    skim-refused {e} {p} {c} q = go (fit (most_entries - m) (row_of from width x)).ends _ refl q
+    skim-refused {e} q = go (fit (most_entries - m) (row_of from width x)).ends _ refl q
       where
-        go : (o : Outcome) (k : ℕ) → (fit (most_entries - m) (row_of from width x)).ends ≡ o → Refused e p c ≡ read_answer o k → (fit (most_entries - m) (row_of from width x)).ends ≡ refused e p
-        go (reached y) k h q = unfold read_answer in (let z : ◌≡◌ {A = ℕ} 0 1 = cc in absurd (omega arith))
-        go (refused e' p') k h q = unfold read_answer in (h ∙ cc)
+        go : (o : Outcome) (k : ℕ) → (fit (most_entries - m) (row_of from width x)).ends ≡ o → Err e ≡ skimmed (read_answer o k) → (fit (most_entries - m) (row_of from width x)).ends ≡ refused e.why e.place
+        go (reached y) k h q = unfold read_answer skimmed in (let z : ◌≡◌ {A = ℕ} 0 1 = cc in absurd (omega arith))
+        go (refused e' p') k h q = unfold read_answer skimmed in (let same : ◌≡◌ {A = RefusedAt} e (record { why = e'; place = p' }) = cc in h ∙ sym (ap (λ r. refused r.why r.place) same))
 
-    pub skim-goes : {p c : ℕ} → Done p c ≡ answer_behind m (fit (most_entries - m) (row_of from width x)) → (x.place ≤ p) × (p - x.place ≤ length x.bytes) × Goes (row_of from width) m x (p - x.place) c
+    pub skim-goes : {r : Reached} → Ok r ≡ skimmed (answer_behind m (fit (most_entries - m) (row_of from width x)))
+        → (x.place ≤ r.place) × (r.place - x.place ≤ length x.bytes) × Goes (row_of from width) m x (r.place - x.place) r.count
     unfolding answer_behind
-    skim-goes {p} {c} q = go (fit (most_entries - m) (row_of from width x)).ends refl q
+    skim-goes {r} q = go (fit (most_entries - m) (row_of from width x)).ends refl q
       where
         stays : {y : Spot} → (row (reading head) (shapes_at (node_shape s l) s from width) x).ends ≡ reached y → Stays x (row (reading head) (shapes_at (node_shape s l) s from width) x).made (reached y)
         stays h = rw h at (row_stays head-sound (shapes_at (node_shape s l) s from width) x)
@@ -123,27 +130,35 @@ module _ (s : List ℕ) (l : Layout) where
             → fit (most_entries - m) (row_of from width x) ≡ record { made = (fit (most_entries - m) (row_of from width x)).made; ends = reached y }
         ran h = ap (λ o. record { made = (fit (most_entries - m) (row_of from width x)).made; ends = o }) h
 
-        at : {y : Spot} {es : List Entry} → y.place ≡ p → m + length (fit (most_entries - m) (row_of from width x)).made ≡ c
+        at : {y : Spot} {es : List Entry} → y.place ≡ r.place → m + length (fit (most_entries - m) (row_of from width x)).made ≡ r.count
             → fit (most_entries - m) (row_of from width x) ≡ record { made = (fit (most_entries - m) (row_of from width x)).made; ends = reached y } → Stays x es (reached y)
-            → (x.place ≤ p) × (p - x.place ≤ length x.bytes) × Goes (row_of from width) m x (p - x.place) c
+            → (x.place ≤ r.place) × (r.place - x.place ≤ length x.bytes) × Goes (row_of from width) m x (r.place - x.place) r.count
         at e many ran (reaches n k f t) =
-            let place : x.place + n ≡ p = sym (past-place x n f) ∙ e in
-            let used : n ≡ p - x.place = omega arith in
+            let place : x.place + n ≡ r.place = sym (past-place x n f) ∙ e in
+            let used : n ≡ r.place - x.place = omega arith in
             (omega arith, rw (← used) k, record { made = (fit (most_entries - m) (row_of from width x)).made; ran = ran ∙ ap (λ z. record { made = (fit (most_entries - m) (row_of from width x)).made; ends = reached z }) (f ∙ ap (λ n. past n x) used); many = many; inside = rw (← used) k })
 
-        go : (o : Outcome) → (fit (most_entries - m) (row_of from width x)).ends ≡ o → Done p c ≡ read_answer o (m + length (fit (most_entries - m) (row_of from width x)).made)
-            → (x.place ≤ p) × (p - x.place ≤ length x.bytes) × Goes (row_of from width) m x (p - x.place) c
-        go (refused e p') h q = unfold read_answer in (let z : ◌≡◌ {A = ℕ} 0 1 = cc in absurd (omega arith))
+        go : (o : Outcome) → (fit (most_entries - m) (row_of from width x)).ends ≡ o → Ok r ≡ skimmed (read_answer o (m + length (fit (most_entries - m) (row_of from width x)).made))
+            → (x.place ≤ r.place) × (r.place - x.place ≤ length x.bytes) × Goes (row_of from width) m x (r.place - x.place) r.count
+        go (refused e p') h q = unfold read_answer skimmed in (let z : ◌≡◌ {A = ℕ} 0 1 = cc in absurd (omega arith))
         go (reached y) h q =
-            unfold read_answer row_step in
-            at (cc) (cc) (ran h) (stays (ap (λ r. r.ends) (fit-reached (most_entries - m) (row_of from width x) _ y (ran h)).1))
+            unfold read_answer row_step skimmed in
+            (let same : ◌≡◌ {A = Reached} r (record { place = y.place; count = m + length (fit (most_entries - m) (row_of from width x)).made }) = cc in
+            at (sym (ap (λ r. r.place) same)) (sym (ap (λ r. r.count) same)) (ran h) (stays (ap (λ r. r.ends) (fit-reached (most_entries - m) (row_of from width x) _ y (ran h)).1)))
+
+  -- as `map_err` hands it on
+  pub skim-mapped : (r : ReadAnswer) {q : Result Reached RefusedAt} (P : Stopped → RefusedAt → Type 0) → MatchResult r (λ x. q ≡ Ok x) (λ e. IsErrAnd q (P e))
+      → ((e : Stopped) (d : RefusedAt) → P e d → d ≡ record { why = e.why; place = e.place }) → q ≡ skimmed r
+  unfolding skimmed
+  skim-mapped (Ok x) P h post = h
+  skim-mapped (Err e) {q} P h post = let p = err_from_is_err_and q h in p.1 ∙ ap Err (post e p.0 p.2)
 
   -- no node: nothing is read
-  pub skim-none : (from m : ℕ) (x : Spot) → Done x.place m ≡ answer_behind m (fit (most_entries - m) (row_of from 0 x))
-  unfolding answer_behind read_answer row_step shapes_at all walks read_nothing fit within
-  skim-none from m x = ap (Done x.place) (sym (add-zero m))
+  pub skim-none : (from m : ℕ) (x : Spot) → Ok (record { place = x.place; count = m }) ≡ skimmed (answer_behind m (fit (most_entries - m) (row_of from 0 x)))
+  unfolding skimmed answer_behind read_answer row_step shapes_at all walks read_nothing fit within
+  skim-none from m x = ap (λ n. Ok (record { place = x.place; count = n })) (sym (add-zero m))
 
-  pub skim-empty : (from width m : ℕ) (x : Spot) → width ≡ 0 → Done x.place m ≡ answer_behind m (fit (most_entries - m) (row_of from width x))
+  pub skim-empty : (from width m : ℕ) (x : Spot) → width ≡ 0 → Ok (record { place = x.place; count = m }) ≡ skimmed (answer_behind m (fit (most_entries - m) (row_of from width x)))
   skim-empty from width m x e = rw e (skim-none from m x)
 
 -- ---- a key field's width

@@ -11,9 +11,10 @@ use Rattle.wire.specs.declared.Layout.{Layout}
 use Rattle.wire.specs.declared.Own.{Own}
 use Rattle.wire.specs.declared.Refusal.{Refusal}
 use Rattle.wire.specs.declared.Refusal.TheVariants.{Room}
-use Rattle.wire.specs.declared.Item.{Item}
-use Rattle.wire.specs.declared.Item.TheVariants.{Took as Taken, Refused as NotTaken}
-use Rattle.wire.specs.declared.ReadAnswer.TheVariants.{Done}
+use Rattle.wire.specs.Item.{Item}
+use Rattle.wire.specs.Item.{Took as Taken, Refused as NotTaken}
+use Rattle.std.specs.Prelude.{Ok}
+use Rattle.wire.specs.declared.Reached.{Reached}
 use Rattle.wire.specs.Shape.{unsigned, Plain, int, Kind, plain}
 use Rattle.wire.specs.Walk.{Step, following, all, times, along, walk, walks}
 use Rattle.wire.specs.Table.{u16_at, node_at, record_of, shapes_at}
@@ -32,9 +33,9 @@ use Rattle.read_item.specs.Steps.{spot}
 use Rattle.reader.specs.Steps.{answer_behind}
 use Rattle.desk.specs.Path.{most_entries}
 use Rattle.desk.specs.Messages.{first_word, onward, word_at}
-use Rattle.messages.specs.declared.Word.TheVariants.{Took, Refused}
+use Rattle.messages.specs.Word.{Took, Refused}
 use Rattle.messages.specs.Fields.{key_width, IsKey}
-use Rattle.messages.specs.Steps.{Goes, Words, took, not_taken}
+use Rattle.messages.specs.Steps.{skimmed, Goes, Words, took, not_taken}
 use Rattle.messages.specs.Past.{Uses}
 use Rattle.messages.proofs.Steps.{goes_then, first-refused, then-refused, goes-read, row-split, skim-goes}
 
@@ -187,25 +188,25 @@ module _ {s : List ℕ} {l : Layout} (g : GoodTable s l) where
   falls-fewer f = record { inside = omega (arith, f.inside); below = λ c h. f.below c (omega arith) }
 
   module _ (from before m : ℕ) (bs : List ℕ) (place : ℕ) (narrow : Bool) (f : Falls s from (before + 1) l.nodes) (is : IsKey s l (from + 2 * before) narrow)
-      {p c : ℕ} (done : Done p c ≡ answer_behind m (fit (most_entries - m) (row_of from before (spot bs place)))) where
+      {r : Reached} (done : Ok r ≡ skimmed (answer_behind m (fit (most_entries - m) (row_of from before (spot bs place))))) where
     -- the bytes behind the fields in front
     abbrev rest : List ℕ
-    rest = take (length bs - (p - place)) (drop (p - place) bs)
+    rest = take (length bs - (r.place - place)) (drop (r.place - place) bs)
 
-    there : place + (p - place) ≡ p
+    there : place + (r.place - place) ≡ r.place
     there = let h = (skim-goes s l from before m (spot bs place) done).0 in omega arith
 
-    behind : {i : Item} → varint (key_width narrow) rest ≡ i → varint (key_width narrow) (drop (p - place) bs) ≡ i
-    behind q = ap (varint (key_width narrow)) (sym (tail bs (p - place))) ∙ q
+    behind : {i : Item} → varint (key_width narrow) rest ≡ i → varint (key_width narrow) (drop (r.place - place) bs) ≡ i
+    behind q = ap (varint (key_width narrow)) (sym (tail bs (r.place - place))) ∙ q
 
-    pub took-there : {own : Own} → c < most_entries → varint (key_width narrow) rest ≡ Taken own → Words s l from before m (spot bs place) (Took own.first (p + own.used) (c + 1))
+    pub took-there : {own : Own} → r.count < most_entries → varint (key_width narrow) rest ≡ Taken own → Words s l from before m (spot bs place) (Took own.first (r.place + own.used) (r.count + 1))
     took-there h q = word-took from before m (spot bs place) narrow f is (skim-goes s l from before m (spot bs place) done).2 h there (behind q)
 
-    pub refused-there : {e : Refusal} → c < most_entries → varint (key_width narrow) rest ≡ NotTaken e → Words s l from before m (spot bs place) (Refused e p)
+    pub refused-there : {e : Refusal} → r.count < most_entries → varint (key_width narrow) rest ≡ NotTaken e → Words s l from before m (spot bs place) (Refused e r.place)
     refused-there h q = word-refused from before m (spot bs place) narrow f is (skim-goes s l from before m (spot bs place) done).2 h there (behind q)
 
-    pub full-there : most_entries ≤ c → Words s l from before m (spot bs place) (Refused Room p)
+    pub full-there : most_entries ≤ r.count → Words s l from before m (spot bs place) (Refused Room r.place)
     full-there h = word-full from before m (spot bs place) narrow f is (skim-goes s l from before m (spot bs place) done).2 h there
 
-    pub ends_there : {own : Own} → varint (key_width narrow) rest ≡ Taken own → p + own.used ≤ place + length bs
-    ends_there q = omega (arith, (took_in (key_width narrow) rest q).within, length-tail bs (p - place), (skim-goes s l from before m (spot bs place) done).0, (skim-goes s l from before m (spot bs place) done).1)
+    pub ends_there : {own : Own} → varint (key_width narrow) rest ≡ Taken own → r.place + own.used ≤ place + length bs
+    ends_there q = omega (arith, (took_in (key_width narrow) rest q).within, length-tail bs (r.place - place), (skim-goes s l from before m (spot bs place) done).0, (skim-goes s l from before m (spot bs place) done).1)

@@ -11,8 +11,8 @@ use Rattle.desk.specs.declared.Key.{Key}
 use Rattle.desk.specs.Rows.{same_key}
 use Rattle.desk.specs.Messages.{Keyed, is_keyed, Message, next, next_of}
 use Rattle.messages.specs.declared.Fields.{Fields}
-use Rattle.messages.specs.declared.Found.{Found}
-use Rattle.messages.specs.declared.Found.TheVariants.{At, Unfit}
+use Rattle.messages.specs.Found.{Found}
+use Rattle.messages.specs.Found.{At, Unfit}
 
 -- how many fields there are: up to the first key field, up to the second, and the others
 unfoldable pub field_count : Fields → ℕ

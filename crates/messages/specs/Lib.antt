@@ -2,3 +2,6 @@
 pub mod Fields
 pub mod Steps
 pub mod Past
+pub mod Found
+pub mod Word
+pub mod NextMessage

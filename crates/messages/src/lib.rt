@@ -14,11 +14,27 @@ ghost use Rattle.desk.specs.Path.{most_entries};
 ghost use Rattle.desk.specs.Rows.{same_key as same_key_of};
 ghost use Rattle.desk.specs.Messages.{next_of};
 ghost use Rattle.messages.specs.Fields.{keys_of, key_width, IsKey, KeyedBy, Ordered, Finds, key_by, HasKey};
-ghost use Rattle.messages.specs.Steps.{Words, next_answer};
-ghost use Rattle.messages.specs.Past.{last_of, MostOf, PastVarint, PastInts, PastKey, PastKeys};
+ghost use Rattle.messages.specs.Steps.{skimmed, Words, Begins, BeginsOr, next_answer};
+ghost use Rattle.messages.specs.Past.{LongestOf, PastVarint, PastInts, PastKey, PastKeys};
 
 use desk::Key;
-use wire::{Item, Layout, ReadAnswer, Refusal};
+use varint::Width;
+use wire::{Layout, Own, Reached, Refusal, RefusedAt};
+
+// A word that was read, the place behind it, and the entries made.
+#[derive(Clone, Copy)]
+pub struct Took {
+    pub word: u64,
+    pub place: usize,
+    pub count: usize,
+}
+
+// A message: its key and its length.
+#[derive(Clone, Copy)]
+pub struct Message {
+    pub key: Key,
+    pub len: usize,
+}
 
 // Each message is read as with a store of so many entries, of which the root's own is the first.
 const ROOM: usize = 16384;
@@ -34,47 +50,26 @@ pub struct Fields {
     pub ahead: bool,
 }
 
-// The key fields that a table has at two places, or that they are unfit for it.
-#[derive(Clone, Copy)]
-pub enum Found {
-    At { fields: Fields },
-    Unfit,
-}
-
-// A key field's word, the place behind it and the entries made, or the reader's own refusal.
-#[derive(Clone, Copy)]
-pub enum Word {
-    Took {
-        word: u64,
-        place: usize,
-        count: usize,
-    },
-    Refused {
-        why: Refusal,
-        place: usize,
-    },
-}
-
-// A key field's word and the place behind it, which lies beyond the bytes if none is taken.
+// A key field's word and the place behind it.
 #[derive(Clone, Copy)]
 pub struct Taken {
     pub word: u64,
     pub behind: usize,
 }
 
-// The words of both key fields in the order in which they stand, and the place behind them, which may lie beyond the bytes.
+// A message's key, read up to the field behind its second key field: that place, and the entries made.
 #[derive(Clone, Copy)]
-pub struct Both {
-    pub one: u64,
-    pub other: u64,
-    pub behind: usize,
+pub struct Begun {
+    pub key: Key,
+    pub place: usize,
+    pub count: usize,
 }
 
-// The next message: its key and how many bytes it has, or the reader's own refusal.
+// The longest varint of an integer of a kind: its bytes, and the largest byte that may stand last in so many.
 #[derive(Clone, Copy)]
-pub enum NextMessage {
-    Message { key: Key, len: usize },
-    Stops { why: Refusal, place: usize },
+pub struct Longest {
+    pub most: usize,
+    pub last: u64,
 }
 
 // ---- one message
@@ -88,26 +83,31 @@ fn skim(
     part: &[u8],
     place: usize,
     made: usize,
-) -> ReadAnswer
+) -> Result<Reached, RefusedAt>
     requires good_table { GoodTable table.now l }
     requires falls { Falls table.now from width l.nodes }
     requires part_bound { place + length part.now < 2 ^ 64 }
-    ensures { result ≡ answer_behind made (fit (most_entries - made) (row_step (reading head) table.now l from width (spot part.now place))) }
+    ensures { result ≡ skimmed (answer_behind made (fit (most_entries - made) (row_step (reading head) table.now l from width (spot part.now place)))) }
 {
     if width == 0 {
-        return ReadAnswer::Done { place, count: made };
+        return Ok(Reached { place, count: made });
     }
-    reader::skim_row(table, l, l.nodes, from, width, part, place, ROOM, made)
+    reader::skim_row(table, l, l.nodes, from, width, part, place, ROOM, made).map_err(
+        |stopped| RefusedAt {
+            why: stopped.why,
+            place: stopped.place,
+        },
+    )
 }
 
 // The own bytes of a key field: a store's, which is narrow, or a product's.
-fn take_word(narrow: bool, part: &[u8]) -> Item
+fn take_word(narrow: bool, part: &[u8]) -> Result<Own, Refusal>
     ensures { result ≡ varint (key_width narrow) part.now }
 {
     if narrow {
         return varint::take_u32(part);
     }
-    varint::take(part, varint::U64::MOST, varint::U64::LAST)
+    varint::take::<varint::U64>(part)
 }
 
 // The key field behind so many others, from where a reading stands.
@@ -120,42 +120,28 @@ fn key_word(
     part: &[u8],
     place: usize,
     made: usize,
-) -> Word
+) -> Result<Took, RefusedAt>
     requires good_table { GoodTable table.now l }
     requires falls { Falls table.now from (before + 1) l.nodes }
     requires key { IsKey table.now l (from + 2 * before) narrow }
     requires part_bound { place + length part.now < 2 ^ 64 }
     ensures { Words table.now l from before made (spot part.now place) result }
 {
-    let got = skim(table, l, from, before, part, place, made);
-    match got {
-        ReadAnswer::Refused {
-            why,
+    let Reached { place: at, count } = skim(table, l, from, before, part, place, made)?;
+    if ROOM <= count {
+        return Err(RefusedAt {
+            why: Refusal::Room,
             place: at,
-            count: _,
-        } => Word::Refused { why, place: at },
-        ReadAnswer::Done { place: at, count } => {
-            if ROOM <= count {
-                return Word::Refused {
-                    why: Refusal::Room,
-                    place: at,
-                };
-            }
-            let used = at - place;
-            let item = take_word(narrow, &part[used..]);
-            match item {
-                Item::Refused { why } => Word::Refused { why, place: at },
-                Item::Took { own } => {
-                    let behind = at + own.used;
-                    let more = count + 1;
-                    Word::Took {
-                        word: own.first,
-                        place: behind,
-                        count: more,
-                    }
-                }
-            }
-        }
+        });
+    }
+    let used = at - place;
+    match take_word(narrow, &part[used..]) {
+        Err(why) => Err(RefusedAt { why, place: at }),
+        Ok(own) => Ok(Took {
+            word: own.first,
+            place: at + own.used,
+            count: count + 1,
+        }),
     }
 }
 
@@ -175,158 +161,133 @@ fn key_by(ahead: bool, one: u64, other: u64) -> Key
     }
 }
 
-// The next message of some bytes, whatever its fields are.
-fn next_any(table: &[u8], l: Layout, f: Fields, part: &[u8]) -> NextMessage
+// The key of a message, whatever its fields are.
+fn begin_any(table: &[u8], l: Layout, f: Fields, part: &[u8]) -> Result<Begun, RefusedAt>
     requires { KeyedBy table.now l f }
+    ensures { BeginsOr table.now l f part.now result }
+{
+    let one = key_word(table, l, f.from, f.before, f.ahead, part, 0, 1)?;
+    let from = f.from + 2 * (f.before + 1);
+    let rest = &part[one.place..];
+    let other = key_word(
+        table, l, from, f.between, !f.ahead, rest, one.place, one.count,
+    )?;
+    Ok(Begun {
+        key: key_by(f.ahead, one.word, other.word),
+        place: other.place,
+        count: other.count,
+    })
+}
+
+// The message of a key: what stands behind the key fields is skimmed.
+fn finish(
+    table: &[u8],
+    l: Layout,
+    f: Fields,
+    part: &[u8],
+    begun: Begun,
+) -> Result<Message, RefusedAt>
+    requires keyed_by { KeyedBy table.now l f }
+    requires begins { Begins table.now l f part.now begun }
     ensures { result ≡ next_answer (next_of (keys_of table.now l f) part.now) }
 {
-    let one = key_word(table, l, f.from, f.before, f.ahead, part, 0, 1);
-    match one {
-        Word::Refused { why, place } => NextMessage::Stops { why, place },
-        Word::Took { word, place, count } => {
-            let from = f.from + 2 * (f.before + 1);
-            let other = key_word(
-                table,
-                l,
-                from,
-                f.between,
-                !f.ahead,
-                &part[place..],
-                place,
-                count,
-            );
-            match other {
-                Word::Refused { why, place: at } => NextMessage::Stops { why, place: at },
-                Word::Took {
-                    word: second,
-                    place: at,
-                    count: more,
-                } => {
-                    let behind = from + 2 * (f.between + 1);
-                    let got = skim(table, l, behind, f.behind, &part[at..], at, more);
-                    match got {
-                        ReadAnswer::Refused {
-                            why,
-                            place: end,
-                            count: _,
-                        } => NextMessage::Stops { why, place: end },
-                        ReadAnswer::Done {
-                            place: len,
-                            count: _,
-                        } => {
-                            let key = key_by(f.ahead, word, second);
-                            NextMessage::Message { key, len }
-                        }
-                    }
-                }
-            }
-        }
-    }
+    let from = f.from + 2 * (f.before + f.between + 2);
+    let rest = &part[begun.place..];
+    let end = skim(table, l, from, f.behind, rest, begun.place, begun.count)?;
+    Ok(Message {
+        key: begun.key,
+        len: end.place,
+    })
 }
 
 // ---- one message of integers
 
-// The most bytes of an integer of a kind, a byte being a varint of one; or 0 for another kind.
-fn most_of(number: u8) -> usize
-    ensures { MostOf number result }
+// The longest varint of an integer of a kind, a byte being a varint of one.
+fn longest_of(number: u8) -> Option<Longest>
+    ensures { LongestOf number result }
 {
     match number {
-        1 => 1,
-        2 => varint::U16::MOST,
-        3 => varint::U32::MOST,
-        4 => varint::U64::MOST,
-        5 => 1,
-        6 => varint::U16::MOST,
-        7 => varint::U32::MOST,
-        8 => varint::U64::MOST,
-        _ => 0,
+        1 | 5 => Some(Longest { most: 1, last: 255 }),
+        2 | 6 => Some(Longest {
+            most: varint::U16::MOST,
+            last: varint::U16::LAST,
+        }),
+        3 | 7 => Some(Longest {
+            most: varint::U32::MOST,
+            last: varint::U32::LAST,
+        }),
+        4 | 8 => Some(Longest {
+            most: varint::U64::MOST,
+            last: varint::U64::LAST,
+        }),
+        _ => None,
     }
 }
 
-// The largest byte that may stand last in so many.
-fn last_of(most: usize) -> u8
-    ensures { result ≡ last_of most }
+// The place behind a varint.
+fn past_varint(longest: Longest, part: &[u8], at: usize) -> Option<usize>
+    requires { 1 ≤ longest.most }
+    ensures { PastVarint longest part.now at result }
 {
-    match most {
-        1 => 255,
-        3 => 3,
-        5 => 15,
-        _ => 1,
-    }
-}
-
-// The place behind a varint of at most so many bytes, or one beyond the bytes.
-fn past_varint(most: usize, part: &[u8], at: usize) -> usize
-    requires { 1 ≤ most }
-    ensures { PastVarint most part.now at result }
-{
-    let beyond = part.len() + 1;
     let mut i = at;
-    let mut left = most;
+    let mut left = longest.most;
     while i < part.len() {
-        let b = part[i];
+        let b = part[i] as u64;
         let next = i + 1;
         if left == 1 {
-            if b <= last_of(most) {
-                return next;
+            if b <= longest.last {
+                return Some(next);
             }
-            return beyond;
+            return None;
         }
         if b < 128 {
-            return next;
+            return Some(next);
         }
         left = left - 1;
         i = next;
     }
-    beyond
+    None
 }
 
-// The same of a row of integers: only where each of them ends, not its value.
-fn past_ints(table: &[u8], l: Layout, from: usize, width: usize, part: &[u8], at: usize) -> usize
+// The place behind a row of integers, of which only the ends are looked for, and not the values.
+fn past_ints(
+    table: &[u8],
+    l: Layout,
+    from: usize,
+    width: usize,
+    part: &[u8],
+    at: usize,
+) -> Option<usize>
     requires good_table { GoodTable table.now l }
     requires falls { Falls table.now from width l.nodes }
+    requires at_inside { at ≤ length part.now }
     ensures { PastInts table.now l from width part.now at result }
 {
-    let beyond = part.len() + 1;
-    let mut child = from;
-    let mut left = width;
     let mut to = at;
-    while 0 < left {
-        let c = table::u16_at(table, child);
-        let most = most_of(table::kind_at(table, l, c));
-        if most == 0 {
-            return beyond;
-        }
-        to = past_varint(most, part, to);
-        child = child + 2;
-        left = left - 1;
+    for i in 0..width {
+        let c = table::u16_at(table, from + 2 * i);
+        let longest = longest_of(table::kind_at(table, l, c))?;
+        to = past_varint(longest, part, to)?;
     }
-    to
+    Some(to)
 }
 
 // A key field of any size.
-fn past_long_key(narrow: bool, part: &[u8], at: usize) -> Taken
+fn past_long_key(narrow: bool, part: &[u8], at: usize) -> Option<Taken>
     requires { at ≤ length part.now }
     ensures { PastKey narrow part.now at result }
 {
-    let item = take_word(narrow, &part[at..]);
-    match item {
-        Item::Refused { why: _ } => {
-            let behind = part.len() + 1;
-            Taken { word: 0, behind }
-        }
-        Item::Took { own } => {
-            let behind = at + own.used;
-            Taken {
-                word: own.first,
-                behind,
-            }
-        }
-    }
+    let Ok(own) = take_word(narrow, &part[at..]) else {
+        return None;
+    };
+    Some(Taken {
+        word: own.first,
+        behind: at + own.used,
+    })
 }
 
 // A key field. One of at most four bytes is the same for a store and for a product, and most are.
-fn past_key(narrow: bool, part: &[u8], at: usize) -> Taken
+fn past_key(narrow: bool, part: &[u8], at: usize) -> Option<Taken>
     requires { at ≤ length part.now }
     ensures { PastKey narrow part.now at result }
 {
@@ -334,108 +295,73 @@ fn past_key(narrow: bool, part: &[u8], at: usize) -> Taken
         let a = part[at] as u64;
         if a < 128 {
             let behind = at + 1;
-            return Taken { word: a, behind };
+            return Some(Taken { word: a, behind });
         }
         let b = part[at + 1] as u64;
         let two = a % 128 + 128 * (b % 128);
         if b < 128 {
             let behind = at + 2;
-            return Taken { word: two, behind };
+            return Some(Taken { word: two, behind });
         }
         let c = part[at + 2] as u64;
         let three = two + 16384 * (c % 128);
         if c < 128 {
             let behind = at + 3;
-            return Taken {
+            return Some(Taken {
                 word: three,
                 behind,
-            };
+            });
         }
         let d = part[at + 3] as u64;
         let four = three + 2097152 * (d % 128);
         if d < 128 {
             let behind = at + 4;
-            return Taken { word: four, behind };
+            return Some(Taken { word: four, behind });
         }
     }
     past_long_key(narrow, part, at)
 }
 
-// Both key fields, where those in front of them are integers.
-fn past_keys(table: &[u8], l: Layout, f: Fields, part: &[u8]) -> Both
+// The key of a message, where the fields in front of the key fields are integers. It is inlined: as a call it would take `next`
+// 214 instructions for a T, and not 180.
+#[inline(always)]
+fn begin(table: &[u8], l: Layout, f: Fields, part: &[u8]) -> Option<Begun>
     requires { KeyedBy table.now l f }
     ensures { PastKeys table.now l f part.now result }
 {
-    let len = part.len();
-    let beyond = len + 1;
-    let none = Both {
-        one: 0,
-        other: 0,
-        behind: beyond,
-    };
-    let first = past_ints(table, l, f.from, f.before, part, 0);
-    if len < first {
-        return none;
-    }
-    let one = past_key(f.ahead, part, first);
-    if len < one.behind {
-        return none;
-    }
+    let first = past_ints(table, l, f.from, f.before, part, 0)?;
+    let one = past_key(f.ahead, part, first)?;
     let from = f.from + 2 * (f.before + 1);
-    let second = past_ints(table, l, from, f.between, part, one.behind);
-    if len < second {
-        return none;
-    }
-    let other = past_key(!f.ahead, part, second);
-    Both {
-        one: one.word,
-        other: other.word,
-        behind: other.behind,
-    }
-}
-
-// The same answer, made anew, so that it meets the others in registers.
-fn anew(got: NextMessage) -> NextMessage
-    ensures { result ≡ got }
-{
-    let NextMessage::Message { key, len } = got else {
-        return got;
-    };
-    NextMessage::Message { key, len }
+    let second = past_ints(table, l, from, f.between, part, one.behind)?;
+    let other = past_key(!f.ahead, part, second)?;
+    Some(Begun {
+        key: key_by(f.ahead, one.word, other.word),
+        place: other.behind,
+        count: f.before + f.between + 3,
+    })
 }
 
 // The next message of some bytes. Most are integers alone, and are gone through without a call; where another field stands behind
 // the key fields, the rest is skimmed, and where one stands in front of them, all is read anew.
-pub fn next(table: &[u8], l: Layout, f: Fields, part: &[u8]) -> NextMessage
+pub fn next(table: &[u8], l: Layout, f: Fields, part: &[u8]) -> Result<Message, RefusedAt>
     requires { KeyedBy table.now l f }
     ensures { result ≡ next_answer (next_of (keys_of table.now l f) part.now) }
 {
-    let len = part.len();
-    let front = f.before + f.between + 3;
-    let made = front + f.behind;
-    if ROOM < made {
-        return anew(next_any(table, l, f, &part[0..]));
+    let made = f.before + f.between + 3 + f.behind;
+    if made <= ROOM {
+        if let Some(begun) = begin(table, l, f, part) {
+            let from = f.from + 2 * (f.before + f.between + 2);
+            if let Some(len) = past_ints(table, l, from, f.behind, part, begun.place) {
+                return Ok(Message {
+                    key: begun.key,
+                    len,
+                });
+            }
+            return finish(table, l, f, part, begun);
+        }
     }
-    let both = past_keys(table, l, f, part);
-    let at = both.behind;
-    if len < at {
-        return anew(next_any(table, l, f, &part[0..]));
-    }
-    let from = f.from + 2 * (f.before + f.between + 2);
-    let end = past_ints(table, l, from, f.behind, part, at);
-    let key = key_by(f.ahead, both.one, both.other);
-    if end <= len {
-        return NextMessage::Message { key, len: end };
-    }
-    let got = skim(table, l, from, f.behind, &part[at..], at, front);
-    match got {
-        ReadAnswer::Refused {
-            why,
-            place,
-            count: _,
-        } => NextMessage::Stops { why, place },
-        ReadAnswer::Done { place, count: _ } => NextMessage::Message { key, len: place },
-    }
+    let begun = begin_any(table, l, f, part)?;
+    finish(table, l, f, part, begun)
 }
 
 // Whether two keys are the same.
@@ -448,71 +374,21 @@ pub fn same_key(a: Key, b: Key) -> bool
     false
 }
 
-// Whether the message that some bytes begin with has a key, whatever its fields are.
-fn has_key_any(table: &[u8], l: Layout, f: Fields, part: &[u8], key: Key) -> bool
-    requires { KeyedBy table.now l f }
-    ensures { HasKey (keys_of table.now l f) part.now key result }
-{
-    let one = key_word(table, l, f.from, f.before, f.ahead, part, 0, 1);
-    match one {
-        Word::Refused { why: _, place: _ } => false,
-        Word::Took { word, place, count } => {
-            let from = f.from + 2 * (f.before + 1);
-            let other = key_word(
-                table,
-                l,
-                from,
-                f.between,
-                !f.ahead,
-                &part[place..],
-                place,
-                count,
-            );
-            match other {
-                Word::Refused { why: _, place: _ } => false,
-                Word::Took {
-                    word: second,
-                    place: _,
-                    count: _,
-                } => {
-                    let own = key_by(f.ahead, word, second);
-                    same_key(own, key)
-                }
-            }
-        }
-    }
-}
-
-// The same, where the fields up to the second key field are integers without a call. What stands behind is not read. The steps are
-// those of `past_keys`, which with a second caller would be a call in `next`: 214 instructions for a T, and not 180.
+// Whether the message that some bytes begin with has a key. What stands behind its key fields is not read.
 pub fn has_key(table: &[u8], l: Layout, f: Fields, part: &[u8], key: Key) -> bool
     requires { KeyedBy table.now l f }
     ensures { HasKey (keys_of table.now l f) part.now key result }
 {
-    let len = part.len();
     let front = f.before + f.between + 2;
-    if ROOM <= front {
-        return has_key_any(table, l, f, &part[0..], key);
+    if front < ROOM {
+        if let Some(begun) = begin(table, l, f, part) {
+            return same_key(begun.key, key);
+        }
     }
-    let first = past_ints(table, l, f.from, f.before, part, 0);
-    if len < first {
-        return has_key_any(table, l, f, &part[0..], key);
+    match begin_any(table, l, f, part) {
+        Ok(begun) => same_key(begun.key, key),
+        Err(_) => false,
     }
-    let one = past_key(f.ahead, part, first);
-    if len < one.behind {
-        return has_key_any(table, l, f, &part[0..], key);
-    }
-    let from = f.from + 2 * (f.before + 1);
-    let second = past_ints(table, l, from, f.between, part, one.behind);
-    if len < second {
-        return has_key_any(table, l, f, &part[0..], key);
-    }
-    let other = past_key(!f.ahead, part, second);
-    if len < other.behind {
-        return has_key_any(table, l, f, &part[0..], key);
-    }
-    let own = key_by(f.ahead, one.word, other.word);
-    same_key(own, key)
 }
 
 // ---- the key fields
@@ -552,29 +428,29 @@ fn is_of(table: &[u8], l: Layout, at: usize, number: u8) -> bool
 }
 
 // The key fields that a good table's root has at two places.
-pub fn fields_of(table: &[u8], l: Layout, store: usize, product: usize) -> Found
+pub fn fields_of(table: &[u8], l: Layout, store: usize, product: usize) -> Option<Fields>
     requires { GoodTable table.now l }
     ensures { Finds table.now l store product result }
 {
     let root = l.root;
     let number = table::kind_at(table, l, root);
     if number != 18 {
-        return Found::Unfit;
+        return None;
     }
     let width = table::child_count(table, l, root);
     let from = table::first_child(table, l, root);
     if width <= store {
-        return Found::Unfit;
+        return None;
     }
     if width <= product {
-        return Found::Unfit;
+        return None;
     }
     if !is_of(table, l, from + 2 * store, 7) {
-        return Found::Unfit;
+        return None;
     }
     if !is_of(table, l, from + 2 * product, 8) {
-        return Found::Unfit;
+        return None;
     }
     let fields = in_order(from, width, store, product);
-    Found::At { fields }
+    Some(fields)
 }

@@ -8,12 +8,13 @@ use native.Mathlib.Nat.{le_refl}
 use native.Mathlib.Omega.{arith}
 use lib.ListN.{length, drop, length-drop}
 use lib.Seq.{drop-drop}
+use Rattle.laws.proofs.Answers.{same-done}
 use Rattle.wire.specs.declared.Refusal.{Refusal}
 use Rattle.wire.specs.declared.Refusal.TheVariants.{Room}
-use Rattle.wire.specs.declared.Item.{Item}
+use Rattle.wire.specs.Item.{Item}
 use Rattle.wire.specs.declared.Layout.{Layout}
-use Rattle.wire.specs.declared.ReadAnswer.{ReadAnswer}
-use Rattle.wire.specs.declared.ReadAnswer.TheVariants.{Done, Refused as NotRead}
+use Rattle.wire.specs.ReadAnswer.{ReadAnswer}
+use Rattle.wire.specs.ReadAnswer.{Done, Refused as NotRead}
 use Rattle.wire.specs.Table.{u16_at, node_at, record_of}
 use Rattle.wire.specs.Reading.{Head, Spot, Outcome, reached, refused, Run, judged, head_by, read_then, reading}
 use Rattle.wire.specs.Answers.{read_answer}
@@ -30,7 +31,7 @@ use Rattle.read_item.proofs.Entering.{item-full}
 use Rattle.reader.specs.Steps.{Gives}
 use Rattle.reader.proofs.Laying.{gives-refused, gives_as}
 use Rattle.reader.proofs.Turns.{from as part_from, Went, turn-refused, turned, node-steady, leaf-gives, leaf-own}
-use Rattle.open.specs.declared.Step.TheVariants.{On, Refused}
+use Rattle.open.specs.Step.{On, Refused}
 use Rattle.open.specs.Steps.{last_from, Passes, Leads, passes, stops}
 use Rattle.open.proofs.Pending.{row-then}
 
@@ -49,7 +50,7 @@ gives_more room r m st {a} g {q} {k} e = go (lay room r m st) (unfold lay laid i
     go w more e = ends w.ends e
       where
         ends : (o : Outcome) → read_answer o w.count ≡ Done q k → m ≤ k
-        ends (reached y) e = unfold read_answer in (let c : w.count ≡ k = cc in omega arith)
+        ends (reached y) e = unfold read_answer in omega (arith, (same-done e).1)
         ends (refused r i) e = unfold read_answer in (let z : ◌≡◌ {A = ℕ} 0 1 = cc in absurd (omega arith))
 
 module _ {h : Head} {room : ℕ} {s : List ℕ} {l : Layout} {from n : ℕ} {bs : List ℕ} {p m : ℕ} {st : List ℕ} where

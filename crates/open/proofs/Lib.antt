@@ -1,3 +1,4 @@
+pub mod Steps
 pub mod Words
 pub mod Weights
 pub mod Chains

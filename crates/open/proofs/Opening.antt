@@ -7,8 +7,8 @@ use Prim.Native.Nat.{ℕ, suc, ◌+◌, ◌-◌, ◌*◌, ◌^◌, ◌<◌, ◌�
 use native.Mathlib.Omega.{arith}
 use lib.ListN.{length, drop}
 use Rattle.wire.specs.declared.Refusal.{Refusal}
-use Rattle.wire.specs.declared.Item.{Item}
-use Rattle.wire.specs.declared.Item.TheVariants.{Took}
+use Rattle.wire.specs.Item.{Item}
+use Rattle.wire.specs.Item.{Took}
 use Rattle.wire.specs.declared.Layout.{Layout}
 use Rattle.wire.specs.Shape.{depth}
 use Rattle.wire.specs.Walk.{following, is_known}
@@ -21,14 +21,15 @@ use Rattle.table.specs.declared.Stretch.{Stretch}
 use Rattle.table.specs.declared.Way.{Way}
 use Rattle.table.specs.Parts.{Falls, Flat, node_step, rounds_step}
 use Rattle.table.proofs.Stretches.{rounds-end, flat-falls, flat-rounds}
-use Rattle.read_item.specs.declared.Entered.{Entered}
-use Rattle.read_item.specs.declared.Entered.TheVariants as entered
+use Rattle.read_item.specs.declared.Inside.{Inside}
+use Rattle.read_item.specs.Entered.{Entered}
+use Rattle.read_item.specs.Entered as entered
 use Rattle.read_item.specs.Lay.{lay}
 use Rattle.read_item.specs.Steps.{spot, own_of, after_of, Enters, goes as enters, stops as halts}
 use Rattle.read_item.proofs.Entering.{Goes as Taken}
 use Rattle.reader.proofs.Turns.{turn-refused, node-steady, entered-refused, entered_on}
 use Rattle.open.specs.declared.Held.{Held}
-use Rattle.open.specs.declared.Step.TheVariants.{On, Refused}
+use Rattle.open.specs.Step.{On, Refused}
 use Rattle.open.specs.Items.{holding, helds_of, pending, Sinks, Chain, over}
 use Rattle.open.specs.Steps.{goes, refuses, Opens}
 use Rattle.open.proofs.Words.{helds-held, helds-length}
@@ -48,7 +49,8 @@ entered-sinks {h} sound {s} {l} {i} g below bs p m store e {to} {u} = go refl e
     go o halts k = let z : ◌≡◌ {A = ℕ} 0 1 = cc in absurd (omega arith)
     go o (enters {own}) k =
         let r = node_at s (record_of l i) in
-        let way : after_of l i r own.first ≡ to = cc in
+        let same : ◌≡◌ {A = Inside} (record { to = after_of l i r own.first; used = own.used }) (record { to = to; used = u }) = cc in
+        let way : after_of l i r own.first ≡ to = ap (λ r. r.to) same in
         let taken : h (node_kind r) (node_count r) p bs ≡ Took own = unfold own_of in o in
         let knows : is_known (following (node_kind r) own.first) (node_count r) ≡ true = sound.knows (node_kind r) (node_count r) p bs taken in
         let shorter : depth (node_shape s l i) ≤ suc (depth (node_shape s l i) - 1) = omega arith in

@@ -1,5 +1,6 @@
 -- The contracts of the public calls: the root is held first, alone; and the list is handed back zero.
 -- Assumes nothing.
+use Rattle.std.specs.Prelude.{Err, Ok}
 use mathlib.Core.Path.{◌≡◌, refl, sym, ap, ap₂, ◌∙◌}
 use mathlib.Core.List.{List, [], ◌∷◌, ◌++◌}
 use Prim.Native.Nat.{ℕ, ◌+◌, ◌*◌, ◌<◌, ◌≤◌}
@@ -9,9 +10,9 @@ use lib.Seq.{length-take-le, take_at, drop_at}
 use borrow.Author.Tests.{le-leb, lt-leb}
 use Rattle.wire.specs.declared.Refusal.{Refusal}
 use Rattle.wire.specs.declared.Layout.{Layout}
-use Rattle.wire.specs.declared.Checked.TheVariants.{Good}
-use Rattle.wire.specs.declared.ReadAnswer.{ReadAnswer}
-use Rattle.wire.specs.declared.ReadAnswer.TheVariants.{Done as Read, Refused as NotRead}
+use Rattle.wire.specs.Checked.{Good}
+use Rattle.wire.specs.ReadAnswer.{ReadAnswer}
+use Rattle.wire.specs.ReadAnswer.{Done as Read, Refused as NotRead}
 use Rattle.wire.specs.Tests.{given}
 use Rattle.wire.specs.Table.{check}
 use Rattle.wire.specs.Reading.{Head, Spot, Run, reading}
@@ -19,8 +20,10 @@ use Rattle.wire.specs.Answers.{rest_of, zeroed}
 use Rattle.laws.specs.Answered.{Reads}
 use Rattle.laws.proofs.Runs.{then-nothing}
 use Rattle.laws.proofs.Tables.{good-table}
-use Rattle.desk.specs.declared.OpenAnswer.{OpenAnswer}
-use Rattle.desk.specs.declared.OpenAnswer.TheVariants.{Done, Refused, ShortList}
+use Rattle.desk.specs.declared.NotOpened.{NotOpened}
+use Rattle.desk.specs.declared.NotOpened.TheVariants.{Refused as Left, ShortList as TooShort}
+use Rattle.desk.specs.OpenAnswer.{OpenAnswer}
+use Rattle.desk.specs.OpenAnswer.{Done, Refused, ShortList}
 use Rattle.desk.specs.Listed.{list_words, open_answer, open_rest, listed_answer, listed_store, list_after, ReadsListed}
 use Rattle.table.specs.declared.Way.{Way}
 use Rattle.table.specs.Parts.{Flat, rounds_step}
@@ -109,20 +112,20 @@ module _ (message : List ℕ) (a : OpenAnswer) where
   unfolding open_rest
   rest-done e h = rw e h
 
-  pub rest-refused : {why : Refusal} {p n : ℕ} → a ≡ Refused why p n → [] ≡ open_rest message a
+  pub rest-none : {e : NotOpened} → a ≡ Err e → [] ≡ open_rest message a
   unfolding open_rest
-  rest-refused e = rw e
-
-  pub rest-short : a ≡ ShortList → [] ≡ open_rest message a
-  unfolding open_rest
-  rest-short e = rw e
+  rest-none {e} h = rw h (none e)
+    where
+      none : (e : NotOpened) → [] ≡ open_rest message (Err e)
+      none (Left why p n) = refl
+      none TooShort = refl
 
 -- ---- beside the first reader
 
 same_rest : (message : List ℕ) (a : ReadAnswer) → open_rest message (open_answer a) ≡ rest_of message a
 unfolding open_rest open_answer rest_of
-same_rest message (Read p n) = refl
-same_rest message (NotRead why p n) = refl
+same_rest message (Ok r) = refl
+same_rest message (Err r) = refl
 
 pub same-as-first : SameAsFirst
 unfolding listed_answer listed_store given

@@ -18,15 +18,16 @@ use Rattle.laws.specs.KindRanges.{IsInner}
 use Rattle.table.specs.Parts.{row_step, rounds_step}
 use Rattle.read_item.specs.Lay.{Left, lay}
 use Rattle.read_item.specs.Steps.{spot}
-use Rattle.reader.specs.declared.Begun.{Begun}
-use Rattle.reader.specs.declared.Begun.TheVariants.{At, Full}
+use Rattle.reader.specs.Begun.{Begun}
+use Rattle.reader.specs.Begun.{At, Full}
 use Rattle.reader.specs.Steps.{Begins, bare, put, full as crowded}
 use Rattle.reader.proofs.Rounds.{begun-full, begun-at}
 use Rattle.open.specs.declared.Held.{Held}
-use Rattle.open.specs.declared.Step.{Step}
-use Rattle.open.specs.declared.Step.TheVariants.{On, Refused}
+use Rattle.open.specs.Step.{Step}
+use Rattle.open.specs.Step.{On, Refused}
 use Rattle.open.specs.Items.{held_at, holding, helds_of, leaving, unread, pending, Chain}
 use Rattle.open.specs.Steps.{last_from, Passes, Inward, Leads, passes, stops, Rounds, begins, full, Turns, goes, refuses, Works, Opens}
+use Rattle.open.proofs.Steps.{same-on}
 use Rattle.open.proofs.Words.{helds-held}
 use Rattle.open.proofs.Holding.{helds-last, held-room}
 use Rattle.open.proofs.Weights.{load_row, load-closed, load-round, load-child}
@@ -42,7 +43,7 @@ begins-more (crowded x) e = let z : ◌≡◌ {A = ℕ} 0 1 = cc in absurd (omeg
 -- the leaves of a row were read
 pub leads-on : {h : Head} {room : ℕ} {s : List ℕ} {l : Layout} {from n : ℕ} {bs : List ℕ} {p m : ℕ} {st : List ℕ} {r : Step} {st' : List ℕ} → Leads h room s l from n bs p m st r st' → {left q k : ℕ} → r ≡ On left q k
     → Passes h room s l from n bs p m st left q k st' × Inward room s l from n left k
-leads-on (passes {left = x} {q = y} {k = z} a b) {left} {q} {k} e = let e₀ : x ≡ left = cc in let e₁ : y ≡ q = cc in let e₂ : z ≡ k = cc in (rw (e₀, e₁, e₂) at a, rw (e₀, e₂) at b)
+leads-on (passes {left = x} {q = y} {k = z} a b) {left} {q} {k} e = let same = same-on e in (rw (same.0, same.1, same.2) at a, rw (same.0, same.2) at b)
 leads-on (stops g) e = let z : ◌≡◌ {A = ℕ} 0 1 = cc in absurd (omega arith)
 
 -- the first number that is left is of the item's next child

@@ -7,7 +7,7 @@ use native.Mathlib.Omega.{arith}
 use lib.ListN.{length}
 use Rattle.wire.specs.declared.Refusal.{Refusal}
 use Rattle.wire.specs.declared.Layout.{Layout}
-use Rattle.wire.specs.declared.ReadAnswer.TheVariants.{Done, Refused as NotRead}
+use Rattle.wire.specs.ReadAnswer.{Done, Refused as NotRead}
 use Rattle.wire.specs.Reading.{Head}
 use Rattle.laws.proofs.Parts.{tail, length-tail}
 use Rattle.read_item.specs.Lay.{Left, lay}
@@ -16,8 +16,10 @@ use Rattle.read_item.proofs.Laying.{lay-nothing}
 use Rattle.reader.specs.Steps.{Gives}
 use Rattle.reader.proofs.Laying.{gives-done}
 use Rattle.reader.proofs.Turns.{from}
-use Rattle.open.specs.declared.Step.{Step}
-use Rattle.open.specs.declared.Step.TheVariants.{On, Refused}
+use Rattle.laws.proofs.Answers.{same-refused}
+use Rattle.open.proofs.Steps.{same-on}
+use Rattle.open.specs.Step.{Step}
+use Rattle.open.specs.Step.{On, Refused}
 use Rattle.open.specs.Items.{helds_of, pending, Chain, load}
 use Rattle.open.specs.Steps.{Goes, Turns, goes, refuses, Works}
 
@@ -28,7 +30,7 @@ module _ {h : Head} {room : ℕ} {s : List ℕ} {l : Layout} {w : Left} {most : 
   turns-on t {e} {q} {k} same = go t same
     where
       go : {a : Step} {t u : List ℕ} → Turns h room s l w most bs p a t u → a ≡ On e q k → Goes h room s l w most bs p e q k t u
-      go (goes {e = x} {q = y} {k = z} g) same = let e₀ : x ≡ e = cc in let e₁ : y ≡ q = cc in let e₂ : z ≡ k = cc in rw (e₀, e₁, e₂) at g
+      go (goes g) same = let parts = same-on same in rw (parts.0, parts.1, parts.2) at g
       go (refuses g) same = let z : ◌≡◌ {A = ℕ} 0 1 = cc in absurd (omega arith)
 
   turns-refused : Turns h room s l w most bs p r st o → {why : Refusal} {q k : ℕ} → r ≡ Refused why q k → Gives w (NotRead why q k) st
@@ -36,7 +38,7 @@ module _ {h : Head} {room : ℕ} {s : List ℕ} {l : Layout} {w : Left} {most : 
     where
       go : {a : Step} {t u : List ℕ} → Turns h room s l w most bs p a t u → a ≡ Refused why q k → Gives w (NotRead why q k) t
       go (goes g) same = let z : ◌≡◌ {A = ℕ} 0 1 = cc in absurd (omega arith)
-      go (refuses {why = x} {q = y} {k = z} g) same = let e₀ : x ≡ why = cc in let e₁ : y ≡ q = cc in let e₂ : z ≡ k = cc in rw (e₀, e₁, e₂) at g
+      go (refuses g) same = let parts = same-refused same in rw (parts.0, parts.1, parts.2) at g
 
 -- ---- turn after turn
 

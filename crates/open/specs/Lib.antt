@@ -2,3 +2,4 @@
 pub mod Items
 pub mod Steps
 pub mod Promise
+pub mod Step

@@ -1,12 +1,12 @@
 -- That this reader answers as the first one does, and that the contracts of the public calls leave no choice.
 -- Assumes nothing.
 use Rattle.std.specs.Prelude.{◌≡◌, List, ℕ, ◌≤◌, length}
-use Rattle.wire.specs.declared.ReadAnswer.{ReadAnswer}
+use Rattle.wire.specs.ReadAnswer.{ReadAnswer}
 use Rattle.wire.specs.Reading.{Run}
 use Rattle.wire.specs.Answers.{rest_of}
 use Rattle.laws.specs.Unique.{Unique}
 use Rattle.laws.specs.Answered.{Reads}
-use Rattle.desk.specs.declared.OpenAnswer.{OpenAnswer}
+use Rattle.desk.specs.OpenAnswer.{OpenAnswer}
 use Rattle.desk.specs.Listed.{list_words, open_answer, open_rest, ReadsListed}
 
 -- One answer, one store and one list meet the contract of `read`, and that of `read_strict`: each names one run.

@@ -6,18 +6,18 @@ use Rattle.std.specs.Prelude.{◌≡◌, List, ℕ, suc, ◌+◌, ◌-◌, ◌*�
 use Rattle.wire.specs.declared.Refusal.{Refusal}
 use Rattle.wire.specs.declared.Refusal.TheVariants.{Room}
 use Rattle.wire.specs.declared.Layout.{Layout}
-use Rattle.wire.specs.declared.ReadAnswer.TheVariants.{Refused as NotRead}
+use Rattle.wire.specs.ReadAnswer.{Refused as NotRead}
 use Rattle.wire.specs.Table.{u16_at, node_at, record_of}
 use Rattle.wire.specs.Reading.{Head, Spot, Run, read_then, reading}
 use Rattle.laws.specs.KindRanges.{IsInner}
 use Rattle.table.specs.Parts.{node_step, row_step}
 use Rattle.read_item.specs.Lay.{Left, lay}
 use Rattle.read_item.specs.Steps.{spot}
-use Rattle.reader.specs.declared.Begun.TheVariants.{At, Full}
+use Rattle.reader.specs.Begun.{At, Full}
 use Rattle.reader.specs.Steps.{Gives, Begins}
 use Rattle.open.specs.declared.Held.{Held}
-use Rattle.open.specs.declared.Step.{Step}
-use Rattle.open.specs.declared.Step.TheVariants.{On, Refused}
+use Rattle.open.specs.Step.{Step}
+use Rattle.open.specs.Step.{On, Refused}
 use Rattle.open.specs.Items.{holding, helds_of, leaving, pending, Chain, load}
 
 -- ---- the leaves in front of a row

@@ -18,10 +18,17 @@ ghost use Rattle.desk.specs.Listed.{open_rest, list_words, ReadsListed};
 ghost use Rattle.open.specs.Items.{held_at, width_word, holding, helds_of, leaving, unread, pending, Chain};
 ghost use Rattle.open.specs.Steps.{Leads, Rounds, Works, Opens};
 
-use desk::OpenAnswer;
-use read_item::{Entered, Int};
-use reader::Begun;
-use wire::{Checked, Item, Layout, Own, ReadAnswer, Refusal};
+use desk::NotOpened;
+use read_item::Inside;
+use wire::{Layout, Own, Reached, Refusal, RefusedAt, Stopped};
+
+// How far a step came: so many are left, of a row's numbers or of the open items.
+#[derive(Clone, Copy)]
+pub struct Turned {
+    pub left: usize,
+    pub place: usize,
+    pub count: usize,
+}
 
 // The words that the list must have: four for each of 256 open items.
 const WORDS: usize = 1024;
@@ -35,21 +42,6 @@ pub struct Held {
     pub headed: bool,
     pub left: usize,
     pub rounds: u64,
-}
-
-// How far a step came: so many are left, of a row's numbers or of the open items; or why the reading is refused.
-#[derive(Clone, Copy)]
-pub enum Step {
-    On {
-        left: usize,
-        place: usize,
-        count: usize,
-    },
-    Refused {
-        why: Refusal,
-        place: usize,
-        count: usize,
-    },
 }
 
 // ---- the list
@@ -99,115 +91,10 @@ fn hold(list: &mut [u64], i: usize, f: Held)
 fn clear(list: &mut [u64])
     ensures { list.new ≡ replicate (length list.old) 0 }
 {
-    let mut i = 0;
-    while i < list.len() {
-        list[i] = 0;
-        i = i + 1;
-    }
+    list.fill(0);
 }
 
-// ---- an item's own bytes
-//
-// They are taken by the leaves' functions, as `read_item` takes them: a second caller of `read_item::int_bytes` or of
-// `read_item::enter` would cost the first reader their inlining. Which bytes are right is said by `head` alone.
-
-// An integer that isn't of fixed size, read plainly, or that the kind is another.
-fn int_bytes(number: u8, part: &[u8]) -> Int
-    ensures { TakesInt number part.now result }
-{
-    match number {
-        1 => Int::Is {
-            item: fixint::take8(part, true),
-        },
-        2 => Int::Is {
-            item: leaf::unzigzag(varint::take_u16(part)),
-        },
-        3 => Int::Is {
-            item: leaf::unzigzag(varint::take_u32(part)),
-        },
-        4 => Int::Is {
-            item: leaf::unzigzag(varint::take(part, varint::U64::MOST, varint::U64::LAST)),
-        },
-        5 => Int::Is {
-            item: fixint::take8(part, false),
-        },
-        6 => Int::Is {
-            item: varint::take_u16(part),
-        },
-        7 => Int::Is {
-            item: varint::take_u32(part),
-        },
-        8 => Int::Is {
-            item: varint::take(part, varint::U64::MOST, varint::U64::LAST),
-        },
-        _ => Int::Other,
-    }
-}
-
-// The own bytes of an item that has children: so many, of which a variant's number names one.
-fn head_bytes(number: u8, count: usize, part: &[u8], place: usize) -> Item
-    requires { IsInner number }
-    ensures { result ≡ head_of (kind_of number) count place part.now }
-{
-    match number {
-        15 => leaf::take_flag(part, Refusal::BadOption),
-        18 => Item::Took {
-            own: Own {
-                first: 0,
-                second: 0,
-                used: 0,
-                shortest: true,
-            },
-        },
-        19 => read_item::known(count, varint::take_u32(part)),
-        _ => varint::take(part, varint::U64::MOST, varint::U64::LAST),
-    }
-}
-
-// Whether a strict reading refuses an item that was taken, for its form.
-fn is_longer(strict: bool, shortest: bool) -> bool
-    ensures { result ≡ both strict (not shortest) }
-{
-    if strict {
-        return !shortest;
-    }
-    false
-}
-
-// The entry of an item that has children, and what follows.
-fn enter(
-    strict: bool,
-    table: &[u8],
-    l: Layout,
-    node: usize,
-    number: u8,
-    part: &[u8],
-    place: usize,
-    store: &mut [u64],
-    made: usize,
-) -> Entered
-    requires good_table { GoodTable table.now l }
-    requires node_lt_nodes { node < l.nodes }
-    requires inner { Inner table.now l node number }
-    ensures { Enters l node (node_at table.now (record_of l node)) place made store.old (own_of (head_by strict) (node_at table.now (record_of l node)) (spot part.now place)) result store.new }
-{
-    let width = table::child_count(table, l, node);
-    let got = head_bytes(number, width, part, place);
-    match got {
-        Item::Refused { why } => Entered::Refused { why },
-        Item::Took { own } => {
-            if is_longer(strict, own.shortest) {
-                return Entered::Refused {
-                    why: Refusal::NotShortest,
-                };
-            }
-            entry::put(store, made, own.first, own.second, place);
-            let from = table::first_child(table, l, node);
-            let to = table::follow(number, own.first, from, width);
-            Entered::On { to, used: own.used }
-        }
-    }
-}
+// ---- a leaf
 
 // A leaf that has room: its entry, or why it is refused.
 fn read_leaf(
@@ -217,30 +104,14 @@ fn read_leaf(
     place: usize,
     store: &mut [u64],
     made: usize,
-) -> ReadAnswer
+) -> Result<Reached, Stopped>
     requires part_bound { place + length part.now < 2 ^ 64 }
     requires made_bound { made + 1 < 2 ^ 64 }
     ensures { Puts place made store.old (judged strict (leaf_take_at number place part.now)) result store.new }
 {
     if !strict {
-        let int = int_bytes(number, part);
-        match int {
-            Int::Is { item } => {
-                let got = read_item::lay(item, place, store, made);
-                // Made anew, so that it does not go through memory with other answers.
-                let ReadAnswer::Done {
-                    place: behind,
-                    count,
-                } = got
-                else {
-                    return got;
-                };
-                return ReadAnswer::Done {
-                    place: behind,
-                    count,
-                };
-            }
-            Int::Other => {}
+        if let Some(item) = read_item::int_bytes(number, part) {
+            return read_item::lay(item, place, store, made);
         }
     }
     read_item::read_leaf(strict, number, part, place, store, made)
@@ -260,7 +131,7 @@ fn read_leaves(
     room: usize,
     store: &mut [u64],
     made: usize,
-) -> Step
+) -> Result<Turned, Stopped>
     requires good_table { GoodTable table.now l }
     requires falls { Falls table.now from width l.nodes }
     requires part_bound { place + length part.now < 2 ^ 64 }
@@ -273,49 +144,34 @@ fn read_leaves(
     let mut left = width;
     while 0 < left {
         if room <= sofar {
-            return Step::Refused {
+            return Err(Stopped {
                 why: Refusal::Room,
                 place: at,
                 count: sofar,
-            };
+            });
         }
         let c = table::u16_at(table, child);
         let number = table::kind_at(table, l, c);
         if table::is_inner(number) {
-            return Step::On {
+            return Ok(Turned {
                 left,
                 place: at,
                 count: sofar,
-            };
+            });
         }
-        let got = read_leaf(strict, number, rest, at, store, sofar);
-        match got {
-            ReadAnswer::Refused {
-                why,
-                place: there,
-                count,
-            } => {
-                return Step::Refused {
-                    why,
-                    place: there,
-                    count,
-                };
-            }
-            ReadAnswer::Done { place: next, count } => {
-                let used = next - at;
-                rest = &rest[used..];
-                at = next;
-                sofar = count;
-                child = child + 2;
-                left = left - 1;
-            }
-        }
+        let Reached { place: next, count } = read_leaf(strict, number, rest, at, store, sofar)?;
+        let used = next - at;
+        rest = &rest[used..];
+        at = next;
+        sofar = count;
+        child = child + 2;
+        left = left - 1;
     }
-    Step::On {
+    Ok(Turned {
         left: 0,
         place: at,
         count: sofar,
-    }
+    })
 }
 
 // An item that has children: its entry, and what follows it held open above the first so many, if anything does.
@@ -331,7 +187,7 @@ fn open_item(
     made: usize,
     list: &mut [u64],
     depth: usize,
-) -> Step
+) -> Result<Turned, Stopped>
     requires good_table { GoodTable table.now l }
     requires node_lt_nodes { node < l.nodes }
     requires inner { IsInner (node_at table.now (record_of l node)).number }
@@ -342,30 +198,23 @@ fn open_item(
     ensures { Opens (head_by strict) room table.now l node (helds_of list.old depth) part.now place made store.old result store.new list.new }
 {
     let number = table::kind_at(table, l, node);
-    let entered = enter(strict, table, l, node, number, part, place, store, made);
-    match entered {
-        Entered::Refused { why } => Step::Refused {
+    match read_item::enter(strict, table, l, node, number, part, place, store, made) {
+        Err(why) => Err(Stopped {
             why,
             place,
             count: made,
-        },
-        Entered::On { to, used } => {
-            let after = place + used;
+        }),
+        Ok(inside) => {
+            let to = inside.to;
+            let after = place + inside.used;
             let next = made + 1;
             // Nothing is held for no rounds, nor for a struct without fields, whose children would be below the longest chain.
-            if to.rounds == 0 {
-                return Step::On {
+            if to.rounds == 0 || to.width == 0 {
+                return Ok(Turned {
                     left: depth,
                     place: after,
                     count: next,
-                };
-            }
-            if to.width == 0 {
-                return Step::On {
-                    left: depth,
-                    place: after,
-                    count: next,
-                };
+                });
             }
             let way = table::flat(table, l, node, to.from, to.width);
             hold(
@@ -380,11 +229,11 @@ fn open_item(
                 },
             );
             let deeper = depth + 1;
-            Step::On {
+            Ok(Turned {
                 left: deeper,
                 place: after,
                 count: next,
-            }
+            })
         }
     }
 }
@@ -403,7 +252,7 @@ fn next_child(
     made: usize,
     list: &mut [u64],
     i: usize,
-) -> Step
+) -> Result<Turned, Stopped>
     requires good_table { GoodTable table.now l }
     requires part_bound { place + length part.now < 2 ^ 64 }
     requires made_lt_room { made < room }
@@ -442,19 +291,18 @@ fn next_round(
     made: usize,
     list: &mut [u64],
     i: usize,
-) -> Step
+) -> Result<Turned, Stopped>
     requires i_in_bounds { 4 * i + 4 ≤ length list.old }
     requires width_bound { top.width < 2 ^ 63 }
     requires rounds_nonzero { 0 < top.rounds }
     ensures { Rounds room top i place made store.old list.old result store.new list.new }
 {
-    let begun = reader::begin(top.headed, place, room, store, made);
-    let Begun::At { made: ready } = begun else {
-        return Step::Refused {
+    let Some(ready) = reader::begin(top.headed, place, room, store, made) else {
+        return Err(Stopped {
             why: Refusal::Room,
             place,
             count: made,
-        };
+        });
     };
     let rounds = top.rounds - 1;
     hold(
@@ -469,11 +317,11 @@ fn next_round(
         },
     );
     let depth = i + 1;
-    Step::On {
+    Ok(Turned {
         left: depth,
         place,
         count: ready,
-    }
+    })
 }
 
 // One turn of the open items, of which there is one: the leaves in front of what the last one leaves of its round, and then its
@@ -489,7 +337,7 @@ fn turn(
     made: usize,
     list: &mut [u64],
     depth: usize,
-) -> Step
+) -> Result<Turned, Stopped>
     requires good_table { GoodTable table.now l }
     requires part_bound { place + length part.now < 2 ^ 64 }
     requires list_len { length list.old ≡ 1024 }
@@ -500,17 +348,13 @@ fn turn(
     let i = depth - 1;
     let top = held_at(list, i);
     let child = top.from + 2 * (top.width - top.left);
-    let got = read_leaves(
-        strict, table, l, child, top.left, part, place, room, store, made,
-    );
-    let Step::On {
+    let Turned {
         left,
         place: at,
         count,
-    } = got
-    else {
-        return got;
-    };
+    } = read_leaves(
+        strict, table, l, child, top.left, part, place, room, store, made,
+    )?;
     let used = at - place;
     if 0 < left {
         return next_child(
@@ -531,11 +375,11 @@ fn turn(
     if 0 < top.rounds {
         return next_round(top, at, room, store, count, list, i);
     }
-    Step::On {
+    Ok(Turned {
         left: i,
         place: at,
         count,
-    }
+    })
 }
 
 // The open items worked off, of which the first is in the list.
@@ -547,7 +391,7 @@ fn work_off(
     room: usize,
     store: &mut [u64],
     list: &mut [u64],
-) -> ReadAnswer
+) -> Result<Reached, Stopped>
     requires good_table { GoodTable table.now l }
     requires list_len { length list.old ≡ 1024 }
     requires chain { Chain table.now l 1 (helds_of list.old 1) }
@@ -558,24 +402,19 @@ fn work_off(
     let mut sofar = 0;
     let mut depth = 1;
     while 0 < depth {
-        let got = turn(strict, table, l, rest, at, room, store, sofar, list, depth);
-        match got {
-            Step::Refused { why, place, count } => {
-                return ReadAnswer::Refused { why, place, count };
-            }
-            Step::On { left, place, count } => {
-                let used = place - at;
-                rest = &rest[used..];
-                at = place;
-                sofar = count;
-                depth = left;
-            }
-        }
+        let Turned { left, place, count } = turn(
+            strict, table, l, rest, at, room, store, sofar, list, depth,
+        )?;
+        let used = place - at;
+        rest = &rest[used..];
+        at = place;
+        sofar = count;
+        depth = left;
     }
-    ReadAnswer::Done {
+    Ok(Reached {
         place: at,
         count: sofar,
-    }
+    })
 }
 
 // ---- the public calls
@@ -587,19 +426,18 @@ fn read_with(
     message: &[u8],
     store: &mut [u64],
     list: &mut [u64],
-) -> ReadAnswer
+) -> Result<Reached, Stopped>
     requires { length list.old ≡ list_words }
     ensures { Gives (laid (read_by strict (check_of table.now) table.now (room_of store.old) message.now) 0 store.old) result store.new }
 {
     let room = entry::room(store.len());
-    let checked = table::check(table);
-    match checked {
-        Checked::Bad { why, place } => ReadAnswer::Refused {
-            why,
-            place,
+    match table::check(table) {
+        Err(bad) => Err(Stopped {
+            why: bad.why,
+            place: bad.place,
             count: 0,
-        },
-        Checked::Good { layout } => {
+        }),
+        Ok(layout) => {
             let root = table::root_at(table);
             let way = table::flat(table, layout, layout.nodes, root, 1);
             hold(
@@ -626,15 +464,19 @@ fn read_and_clear(
     store: &mut [u64],
     list: &mut [u64],
     words: usize,
-) -> OpenAnswer
+) -> Result<Reached, NotOpened>
     requires { (list_words ≡ words) × (words ≤ length list.old) }
     ensures { ReadsListed (read_by strict (check_of table.now) table.now (room_of store.old) message.now) store.old list.old result store.new list.new }
 {
     let got = read_with(strict, table, message, store, &mut list[0..words]);
     clear(&mut list[0..words]);
     match got {
-        ReadAnswer::Done { place, count } => OpenAnswer::Done { place, count },
-        ReadAnswer::Refused { why, place, count } => OpenAnswer::Refused { why, place, count },
+        Ok(reached) => Ok(reached),
+        Err(stop) => Err(NotOpened::Refused {
+            why: stop.why,
+            place: stop.place,
+            count: stop.count,
+        }),
     }
 }
 
@@ -645,41 +487,46 @@ fn read_listed(
     message: &[u8],
     store: &mut [u64],
     list: &mut [u64],
-) -> OpenAnswer
+) -> Result<Reached, NotOpened>
     ensures { ReadsListed (read_by strict (check_of table.now) table.now (room_of store.old) message.now) store.old list.old result store.new list.new }
 {
     if WORDS <= list.len() {
         return read_and_clear(strict, table, message, store, list, WORDS);
     }
-    OpenAnswer::ShortList
+    Err(NotOpened::ShortList)
 }
 
 // Reads a message by a table as `reader::read` does, with a lent list of open items, four words each. A list with room for
 // fewer than 256 is refused before all else, and nothing changes; else its first 1,024 words come back zero.
-pub fn read(table: &[u8], message: &[u8], store: &mut [u64], list: &mut [u64]) -> OpenAnswer
+pub fn read(
+    table: &[u8],
+    message: &[u8],
+    store: &mut [u64],
+    list: &mut [u64],
+) -> Result<Reached, NotOpened>
     ensures { ReadsListed (reads table.now message.now store.old) store.old list.old result store.new list.new }
 {
     read_listed(false, table, message, store, list)
 }
 
 // The same, as `reader::read_strict` does.
-pub fn read_strict(table: &[u8], message: &[u8], store: &mut [u64], list: &mut [u64]) -> OpenAnswer
+pub fn read_strict(
+    table: &[u8],
+    message: &[u8],
+    store: &mut [u64],
+    list: &mut [u64],
+) -> Result<Reached, NotOpened>
     ensures { ReadsListed (reads_strict table.now message.now store.old) store.old list.old result store.new list.new }
 {
     read_listed(true, table, message, store, list)
 }
 
 // The unread bytes, from the same message and its answer.
-pub fn rest<'a>(message: &'a [u8], answer: OpenAnswer) -> &'a [u8]
+pub fn rest<'a>(message: &'a [u8], answer: Result<Reached, NotOpened>) -> &'a [u8]
     ensures { result.now ≡ open_rest message.now answer }
 {
     match answer {
-        OpenAnswer::Done { place, count: _ } => { tail::from(message, place) }
-        OpenAnswer::Refused {
-            why: _,
-            place: _,
-            count: _,
-        } => &message[0..0],
-        OpenAnswer::ShortList => &message[0..0],
+        Ok(reached) => tail::from(message, reached.place),
+        Err(_) => &message[0..0],
     }
 }

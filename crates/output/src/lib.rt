@@ -6,48 +6,31 @@ ghost use Rattle.wire.specs.Numbers.{shortest};
 ghost use Rattle.wire.specs.Writing.{with_count};
 ghost use Rattle.output.specs.Bytes.{cap, Places, Puts};
 
-const LARGEST: usize = 0xffff_ffff_ffff_ffff;
+use varint::{U64, Width};
 
 // A sum that stops at the largest word. Many entries may name one part of the pool, so lengths can add up to more.
 pub fn add(used: usize, n: usize) -> usize
     ensures { result ≡ cap (used + n) }
 {
-    if LARGEST - used < n {
-        return LARGEST;
-    }
-    used + n
+    used.saturating_add(n)
 }
 
 // How many of n bytes have a place behind the first `used`, among `len` places.
 pub fn places(len: usize, used: usize, n: usize) -> usize
     ensures { Places len used n result }
 {
-    if len <= used {
-        return 0;
-    }
-    let left = len - used;
-    if left < n {
-        return left;
-    }
-    n
+    len.saturating_sub(used).min(n)
 }
 
 // Stores bytes behind the first `used` of `out`, as far as it has places, and returns how many there are now.
 pub fn put_bytes(bytes: &[u8], out: &mut [u8], used: usize) -> usize
     ensures { Puts bytes.now used out.old result out.new }
 {
-    let n = bytes.len();
-    let len = out.len();
-    let end = add(used, n);
-    let count = places(len, used, n);
-    let mut i: usize = 0;
-    while i < count {
-        let b = bytes[i];
-        let at = used + i;
-        out[at] = b;
-        i = i + 1;
+    let count = places(out.len(), used, bytes.len());
+    if 0 < count {
+        out[used..used + count].copy_from_slice(&bytes[..count]);
     }
-    end
+    add(used, bytes.len())
 }
 
 pub fn put_byte(b: u8, out: &mut [u8], used: usize) -> usize
@@ -87,7 +70,7 @@ pub fn put_varint(x: u64, out: &mut [u8], used: usize) -> usize
         let size = varint::size(x);
         return add(used, size);
     }
-    if varint::U64::MOST <= len - used {
+    if U64::MOST <= len - used {
         return put_inside(x, out, used);
     }
     let n = varint::put(out, used, x);

@@ -12,8 +12,8 @@ use Rattle.laws.proofs.Parts.{sets-append}
 use Rattle.append.specs.Area.{Sound}
 use Rattle.append.specs.Compare.{Asked}
 use Rattle.append.proofs.Matching.{as_long}
-use Rattle.parting.specs.declared.Next.{Next}
-use Rattle.parting.specs.declared.Next.TheVariants.{Here, Down}
+use Rattle.parting.specs.Next.{Next}
+use Rattle.parting.specs.Next.{Here, Down}
 use Rattle.parting.specs.Pairs.{parting_at, Leads, Follows, Stored}
 use Rattle.parting.proofs.Steps.{few-positions}
 

@@ -1,5 +1,6 @@
 -- What is answered: by the two tables' checks, then by the append question, then by the way down.
 -- Assumes nothing.
+use Rattle.std.specs.Prelude.{Err}
 use mathlib.Core.Path.{◌≡◌, refl, sym, ap₂, ◌∙◌}
 use mathlib.Core.Bool.{Bool, true, false}
 use mathlib.Core.List.{List, []}
@@ -10,10 +11,10 @@ use lib.ListN.{length}
 use lib.Seq.{sets-eq}
 use Rattle.wire.specs.declared.Refusal.{Refusal}
 use Rattle.wire.specs.declared.Layout.{Layout}
-use Rattle.wire.specs.declared.Checked.{Checked}
-use Rattle.wire.specs.declared.Checked.TheVariants.{Good, Bad}
+use Rattle.wire.specs.Checked.{Checked}
+use Rattle.wire.specs.Checked.{Good, Bad}
 use Rattle.wire.specs.declared.Side.TheVariants.{Old, New}
-use Rattle.wire.specs.declared.AskAnswer.TheVariants.{Says}
+use Rattle.wire.specs.AskAnswer.{Says}
 use Rattle.wire.specs.Table.{check, shape_of}
 use Rattle.wire.specs.Append.{appends}
 use Rattle.wire.specs.Answers.{area_bytes, ask_by, area_after}
@@ -21,8 +22,8 @@ use Rattle.laws.proofs.Splits.{by-lt}
 use Rattle.laws.proofs.Areas.{area-short, asks-short, asks-long}
 use Rattle.laws.proofs.Tables.{good-table, within-limits}
 use Rattle.append.specs.Compare.{Begun}
-use Rattle.parting.specs.declared.Parting.{Parting}
-use Rattle.parting.specs.declared.Parting.TheVariants.{Appends, Apart, Refused, ShortArea}
+use Rattle.parting.specs.PartAnswer.{PartAnswer}
+use Rattle.parting.specs.PartAnswer.{Appends, Apart, Refused, ShortArea}
 use Rattle.parting.specs.Parting.{parting, parting_by, Parted, parted_by, parted, parted_within}
 use Rattle.parting.specs.Pairs.{parting_at, Stored}
 use Rattle.parting.specs.Promise.{Parts, Finds, OneParting, PartAt, PartsThere, FirstWords}
@@ -44,7 +45,7 @@ module _ (old new area path : List ℕ) where
   unfolding parted parted_within
   within h = rw (asks-long area old new h)
 
-  pub finds-long : {r : Parting} {area' path' : List ℕ} → area_bytes ≤ length area → Parts (parted_within old new) path r path' → area' ≡ area_after area
+  pub finds-long : {r : PartAnswer} {area' path' : List ℕ} → area_bytes ≤ length area → Parts (parted_within old new) path r path' → area' ≡ area_after area
       → Finds old new area path r area' path'
   finds-long h p e = record { parts = rw (within h) p; handed = e }
 
@@ -108,8 +109,8 @@ tells-good old new l m a b false h =
 
 tells : (old new : List ℕ) (c d : Checked) → check old ≡ c → check new ≡ d → Tells old new (parted_by (ask_by c d old new) (parting_by c d old new))
 unfolding ask_by parted_by parting_by
-tells old new (Bad w i) d a b = (omega arith, λ n e. let z : ◌≡◌ {A = ℕ} 0 1 = cc in absurd (omega arith))
-tells old new (Good l) (Bad w i) a b = (omega arith, λ n e. let z : ◌≡◌ {A = ℕ} 0 1 = cc in absurd (omega arith))
+tells old new (Err r) d a b = (omega arith, λ n e. let z : ◌≡◌ {A = ℕ} 0 1 = cc in absurd (omega arith))
+tells old new (Good l) (Err r) a b = (omega arith, λ n e. let z : ◌≡◌ {A = ℕ} 0 1 = cc in absurd (omega arith))
 tells old new (Good l) (Good m) a b = tells-good old new l m a b (appends (shape_of old l) (shape_of new m)) refl
 
 tells_all : (old new area : List ℕ) → Tells old new (parted old new area)

@@ -1,12 +1,12 @@
 -- What the search for the place asks of a pair of nodes and tells.
 -- Assumes nothing.
-use Rattle.std.specs.Prelude.{◌≡◌, List, [], ◌∷◌, ℕ, ◌<◌, length}
+use Rattle.std.specs.Prelude.{◌≡◌, List, [], ◌∷◌, ℕ, ◌<◌, length, Some}
 use Rattle.std.proofs.lemmas.List.Edits.{sets}
 use Rattle.wire.specs.declared.Layout.{Layout}
 use Rattle.laws.specs.Tables.{node_shape}
 use Rattle.append.specs.Area.{Sound}
-use Rattle.parting.specs.declared.Next.{Next}
-use Rattle.parting.specs.declared.Next.TheVariants.{Here, Down}
+use Rattle.parting.specs.Next.{Next}
+use Rattle.parting.specs.Next.{Here, Down}
 use Rattle.parting.specs.Parting.{parting}
 
 -- where the old node i and the new node j part
@@ -22,7 +22,7 @@ pub record Leads (s : List ℕ) (l : Layout) (i : ℕ) (t : List ℕ) (m : Layou
 -- what follows a pair
 abbrev pub Follows : List ℕ → Layout → ℕ → List ℕ → Layout → ℕ → Next → Type 0
 Follows s l i t m j Here = parting_at s l i t m j ≡ []
-Follows s l i t m j (Down at p q) = Leads s l i t m j at p q
+Follows s l i t m j (Some r) = Leads s l i t m j r.position r.p r.q
 
 -- and the area has a pair marked only if it matches
 pub record Followed (s : List ℕ) (l : Layout) (i : ℕ) (t : List ℕ) (m : Layout) (j : ℕ) (a : List ℕ) (r : Next) : Type 0 where

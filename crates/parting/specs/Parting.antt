@@ -1,17 +1,17 @@
 -- Where two shapes part, and what is answered of two tables.
 -- Assumes nothing.
-use Rattle.std.specs.Prelude.{true, false, List, [], ◌∷◌, ℕ, ◌+◌, length}
-use Rattle.wire.specs.declared.Checked.{Checked}
-use Rattle.wire.specs.declared.Checked.TheVariants.{Good, Bad}
-use Rattle.wire.specs.declared.AskAnswer.{AskAnswer}
-use Rattle.wire.specs.declared.AskAnswer.TheVariants.{Says, Refused as NotAsked, ShortArea as NotEnough}
+use Rattle.std.specs.Prelude.{true, false, List, [], ◌∷◌, ℕ, ◌+◌, length, Err}
+use Rattle.wire.specs.Checked.{Checked}
+use Rattle.wire.specs.Checked.{Good, Bad}
+use Rattle.wire.specs.AskAnswer.{AskAnswer}
+use Rattle.wire.specs.AskAnswer.{Says, Refused as NotAsked, ShortArea as NotEnough}
 use Rattle.wire.specs.Tests.{pick, given}
 use Rattle.wire.specs.Shape.{same_kind, Shape, node, Shapes, none, more}
 use Rattle.wire.specs.Table.{check, shape_of}
 use Rattle.wire.specs.Append.{matches}
 use Rattle.wire.specs.Answers.{ask_by, asks}
-use Rattle.parting.specs.declared.Parting.{Parting}
-use Rattle.parting.specs.declared.Parting.TheVariants.{Appends, Apart, Refused, ShortArea}
+use Rattle.parting.specs.PartAnswer.{PartAnswer}
+use Rattle.parting.specs.PartAnswer.{Appends, Apart, Refused, ShortArea}
 
 -- where an old shape and a new one part: from the root down, the position of the first child, in the shapes' order, that doesn't match; none where the two differ by themselves, in their kinds or in how many children they have
 unfoldable mutual
@@ -27,12 +27,12 @@ unfoldable mutual
 -- where two tables part: nowhere unless both are good
 unfoldable pub parting_by : Checked → Checked → List ℕ → List ℕ → List ℕ
 parting_by (Good l) (Good m) old new = parting (shape_of old l) (shape_of new m)
-parting_by (Good l) (Bad e i) old new = []
-parting_by (Bad e i) c old new = []
+parting_by (Good l) (Err r) old new = []
+parting_by (Err r) c old new = []
 
 -- an answer, and the positions that it stores
 pub record Parted : Type 0 where
-  pub answer : Parting
+  pub answer : PartAnswer
   pub positions : List ℕ
 
 -- what is answered after the append question, where the tables part at p

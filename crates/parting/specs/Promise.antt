@@ -3,31 +3,31 @@
 use Rattle.std.specs.Prelude.{◌≡◌, false, List, [], ◌∷◌, ◌++◌, ℕ, suc, ◌<◌, length, drop}
 use Rattle.std.proofs.lemmas.List.Edits.{sets}
 use Rattle.wire.specs.declared.Layout.{Layout}
-use Rattle.wire.specs.declared.Checked.TheVariants.{Good}
+use Rattle.wire.specs.Checked.{Good}
 use Rattle.wire.specs.Shape.{Kind, same_kind, Shape, node, Shapes, more, count}
 use Rattle.wire.specs.Table.{check, shape_of}
 use Rattle.wire.specs.Append.{is_open}
 use Rattle.wire.specs.Answers.{area_after}
 use Rattle.laws.specs.Unique.{Unique}
 use Rattle.append.specs.Compare.{suits}
-use Rattle.parting.specs.declared.Parting.{Parting}
-use Rattle.parting.specs.declared.Parting.TheVariants.{Apart}
+use Rattle.parting.specs.PartAnswer.{PartAnswer}
+use Rattle.parting.specs.PartAnswer.{Apart}
 use Rattle.parting.specs.Parting.{Parted, parted}
 
 -- the answer, and the path as it is left: the positions from its first word on, and every other word as before
-pub record Parts (w : Parted) (path : List ℕ) (r : Parting) (left : List ℕ) : Type 0 where
+pub record Parts (w : Parted) (path : List ℕ) (r : PartAnswer) (left : List ℕ) : Type 0 where
   pub answered : r ≡ w.answer
   pub stored : left ≡ sets path 0 w.positions
 
 -- the same of an old table and a new one, and the work area as it is left
-pub record Finds (old new area path : List ℕ) (r : Parting) (area' path' : List ℕ) : Type 0 where
+pub record Finds (old new area path : List ℕ) (r : PartAnswer) (area' path' : List ℕ) : Type 0 where
   pub parts : Parts (parted old new area) path r path'
   pub handed : area' ≡ area_after area
 
 -- ---- no choice
 
 abbrev pub OneParting : Type 0
-OneParting = (old new area path : List ℕ) → Unique (λ (r : Parting × List ℕ × List ℕ). Finds old new area path r.0 r.1 r.2)
+OneParting = (old new area path : List ℕ) → Unique (λ (r : PartAnswer × List ℕ × List ℕ). Finds old new area path r.0 r.1 r.2)
 
 -- ---- what the positions lead to
 

@@ -2,7 +2,7 @@
 #![tactic(auto)]
 
 ghost use Rattle.std.specs.Prelude.{◌≡◌, ◌≤◌, length};
-ghost use Rattle.wire.specs.declared.Checked.TheVariants.{Good};
+ghost use Rattle.wire.specs.Checked.{Good};
 ghost use Rattle.wire.specs.Table.{check as check_of};
 ghost use Rattle.wire.specs.Answers.{area_bytes};
 ghost use Rattle.append.specs.Compare.{Asked};
@@ -10,31 +10,24 @@ ghost use Rattle.parting.specs.Parting.{parted_within};
 ghost use Rattle.parting.specs.Pairs.{parting_at, Followed, Stored};
 ghost use Rattle.parting.specs.Promise.{Parts, Finds};
 
-use wire::{Checked, Layout, Refusal, Side};
+use wire::{Layout, NotAsked, RefusedAt, Side};
+
+// A step down to two children, the position of both, and the nodes.
+#[derive(Clone, Copy)]
+struct Down {
+    position: u64,
+    p: usize,
+    q: usize,
+}
 
 // How many positions a path has room for: one for each node of a good table's longest chain of children, and its last node takes none.
 const ROOM: usize = 256;
 
-// The new table only appends; or they part so many positions down; or one of them is not good, why and at which node; or the work area is too short.
+// What two tables come to: the new one only appends to the old one, or they part so many positions down.
 #[derive(Clone, Copy)]
 pub enum Parting {
     Appends,
-    Apart {
-        depth: usize,
-    },
-    Refused {
-        side: Side,
-        why: Refusal,
-        place: usize,
-    },
-    ShortArea,
-}
-
-// Where the way goes on from a pair of nodes: nowhere, or to their children p and q at a position.
-#[derive(Clone, Copy)]
-enum Next {
-    Here,
-    Down { position: u64, p: usize, q: usize },
+    Apart { depth: usize },
 }
 
 // The first pair of children that doesn't match, where the kinds are the same.
@@ -46,14 +39,14 @@ fn next_pair(
     m: Layout,
     j: usize,
     area: &mut [u8],
-) -> Next
+) -> Option<Down>
     requires { Asked old.now l i new.now m j area.old }
     ensures { Followed old.now l i new.now m j area.new result }
 {
     let number = table::kind_at(old, l, i);
     let other = table::kind_at(new, m, j);
     if number != other {
-        return Next::Here;
+        return None;
     }
     let mut olds = table::child_count(old, l, i);
     let mut news = table::child_count(new, m, j);
@@ -62,12 +55,12 @@ fn next_pair(
     let mut position = 0u64;
     while 0 < olds {
         if news == 0 {
-            return Next::Here;
+            return None;
         }
         let p = table::u16_at(old, from);
         let q = table::u16_at(new, at);
         if !append::nodes_match(old, l, p, new, m, q, area) {
-            return Next::Down { position, p, q };
+            return Some(Down { position, p, q });
         }
         olds = olds - 1;
         news = news - 1;
@@ -75,7 +68,7 @@ fn next_pair(
         at = at + 2;
         position = position + 1;
     }
-    Next::Here
+    None
 }
 
 // The positions from the roots down, and how many there are.
@@ -94,7 +87,7 @@ fn go_down(
     let mut j = m.root;
     let mut depth = 0;
     loop {
-        let Next::Down { position, p, q } = next_pair(old, l, i, new, m, j, area) else {
+        let Some(Down { position, p, q }) = next_pair(old, l, i, new, m, j, area) else {
             return depth;
         };
         path[depth] = position;
@@ -112,46 +105,57 @@ fn of_good(
     m: Layout,
     area: &mut [u8],
     path: &mut [u64; ROOM],
-) -> Parting
+) -> Result<Parting, NotAsked>
     requires value { (check_of old.now ≡ Good l) × (check_of new.now ≡ Good m) }
     requires area_bytes_in_bounds { area_bytes ≤ length area.old }
     ensures { Parts (parted_within old.now new.now) path.old result path.new }
 {
     if append::roots_append(old, l, new, m, area) {
-        return Parting::Appends;
+        return Ok(Parting::Appends);
     }
     let depth = go_down(old, l, new, m, area, path);
-    Parting::Apart { depth }
+    Ok(Parting::Apart { depth })
 }
 
 // The answer where the old table is good.
-fn after_old(old: &[u8], l: Layout, new: &[u8], area: &mut [u8], path: &mut [u64; ROOM]) -> Parting
+fn after_old(
+    old: &[u8],
+    l: Layout,
+    new: &[u8],
+    area: &mut [u8],
+    path: &mut [u64; ROOM],
+) -> Result<Parting, NotAsked>
     requires value { check_of old.now ≡ Good l }
     requires area_bytes_in_bounds { area_bytes ≤ length area.old }
     ensures { Parts (parted_within old.now new.now) path.old result path.new }
 {
     match table::check(new) {
-        Checked::Bad { why, place } => Parting::Refused {
+        Err(RefusedAt { why, place }) => Err(NotAsked::Table {
             side: Side::New,
             why,
             place,
-        },
-        Checked::Good { layout } => of_good(old, l, new, layout, area, path),
+        }),
+        Ok(layout) => of_good(old, l, new, layout, area, path),
     }
 }
 
 // The answer where the work area is long enough.
-fn find_within(old: &[u8], new: &[u8], area: &mut [u8], path: &mut [u64; ROOM]) -> Parting
+fn find_within(
+    old: &[u8],
+    new: &[u8],
+    area: &mut [u8],
+    path: &mut [u64; ROOM],
+) -> Result<Parting, NotAsked>
     requires { area_bytes ≤ length area.old }
     ensures { Parts (parted_within old.now new.now) path.old result path.new }
 {
     match table::check(old) {
-        Checked::Bad { why, place } => Parting::Refused {
+        Err(RefusedAt { why, place }) => Err(NotAsked::Table {
             side: Side::Old,
             why,
             place,
-        },
-        Checked::Good { layout } => after_old(old, layout, new, area, path),
+        }),
+        Ok(layout) => after_old(old, layout, new, area, path),
     }
 }
 
@@ -162,7 +166,7 @@ fn find_and_clear(
     area: &mut [u8],
     size: usize,
     path: &mut [u64; ROOM],
-) -> Parting
+) -> Result<Parting, NotAsked>
     requires { (area_bytes ≡ size) × (size ≤ length area.old) }
     ensures { Finds old.now new.now area.old path.old result area.new path.new }
 {
@@ -171,13 +175,19 @@ fn find_and_clear(
     answer
 }
 
-// Where the new table parts from the old one: the positions from the roots down stand in the path's first words, and no other word changes; none where the new one only appends, or one of them is not good.
+// Where the new table parts from the old one: the positions from the roots down stand in the path's first words, and no other word
+// changes; none where the new one only appends. It is refused where one of them is not good, or the work area is too short.
 // The work area is that of the append question, and comes back as from there.
-pub fn find(old: &[u8], new: &[u8], area: &mut [u8], path: &mut [u64; ROOM]) -> Parting
+pub fn find(
+    old: &[u8],
+    new: &[u8],
+    area: &mut [u8],
+    path: &mut [u64; ROOM],
+) -> Result<Parting, NotAsked>
     ensures { Finds old.now new.now area.old path.old result area.new path.new }
 {
     if append::AREA <= area.len() {
         return find_and_clear(old, new, area, append::AREA, path);
     }
-    Parting::ShortArea
+    Err(NotAsked::ShortArea)
 }

@@ -1,5 +1,6 @@
 -- What is promised of night batches follows from the laws of `batches`: an answer that is done names what was made, and the laws say what that is.
 -- Assumes nothing.
+use Rattle.std.specs.Prelude.{Err}
 use mathlib.Core.Path.{◌≡◌, refl, sym, ap, ◌∙◌}
 use mathlib.Core.Bool.{Bool, true, false}
 use mathlib.Core.List.{List, [], ◌++◌, append_assoc, append-nil}
@@ -10,8 +11,8 @@ use lib.ListN.{length, take, drop, get_or, length-append, length-drop}
 use lib.Seq.{take_at, drop_at, drop-append-le}
 use lib.Dec.{ltb}
 use borrow.Author.Tests.{ltb-true, le-leb, ne_eqb}
-use Rattle.wire.specs.declared.Checked.{Checked}
-use Rattle.wire.specs.declared.Checked.TheVariants.{Good as GoodTable, Bad as BadTable}
+use Rattle.wire.specs.Checked.{Checked}
+use Rattle.wire.specs.Checked.{Good as GoodTable, Bad as BadTable}
 use Rattle.wire.specs.Tests.{pick, given, both}
 use Rattle.wire.specs.Shape.{Shape}
 use Rattle.wire.specs.Table.{check}
@@ -19,9 +20,10 @@ use Rattle.laws.specs.Range.{AreBytes}
 use Rattle.laws.proofs.Bytes.{below-drop}
 use Rattle.desk.specs.declared.Fault.{Fault}
 use Rattle.desk.specs.declared.Fault.TheVariants.{Wire, Fields, Batch as BadBatch, Missing}
-use Rattle.desk.specs.declared.BatchWritten.TheVariants.{Done as Written, Refused as NotWritten}
-use Rattle.desk.specs.declared.BatchFound.TheVariants.{Part as Found, Refused as NotFound}
+use Rattle.desk.specs.BatchWritten.{Done as Written, Refused as NotWritten}
+use Rattle.desk.specs.BatchFound.{Part as Found, Refused as NotFound}
 use Rattle.desk.specs.declared.Key.{Key}
+use Rattle.desk.specs.declared.Part as found
 use Rattle.desk.specs.Rows.{same_key, sort, some_if, number_at, rows_bytes, row_at, rows_at}
 use Rattle.desk.specs.Messages.{Keyed, is_keyed, Message, Cut, next, stops, next_of, Split, whole, broken, split, joined, rows_of, Part}
 use Rattle.desk.specs.Batch.{Or, so, fault, after, shape_by, tabled, keyed, trailer, batch_of, Parts, parts_at, open_at, opened, split_by, sized, writes, part_by, found_in, written_answer, out_with, found_answer, batch_write, batch_write_out, batch_last, part_of}
@@ -112,7 +114,9 @@ last-from-front table batch k answer e x = searched-is-last table batch k answer
 
 of-found {ℓ} : {X : Type ℓ} (o : Or Part) {from len : ℕ} → Found from len ≡ found_answer o → ((p : Part) → o ≡ so p → p.from ≡ from → p.len ≡ len → X) → X
 unfolding found_answer
-of-found (so p) e f = f p refl (cc) (cc)
+of-found (so p) {from = a} {len = n} e f =
+    let same : ◌≡◌ {A = found.Part} (record { from = a; len = n }) (record { from = p.from; len = p.len }) = cc in
+    f p refl (sym (ap (λ q. q.from) same)) (sym (ap (λ q. q.len) same))
 of-found (fault why) e f = let z : ◌≡◌ {A = ℕ} 0 1 = cc in absurd (omega arith)
 
 -- the message that is read at a place before the rows
@@ -197,7 +201,7 @@ module _ (table : List ℕ) (why : Fault) where
   shape-refuses : (c : Checked) → check table ≡ c → shape_by c table ≡ fault why → Refuses table why
   unfolding shape_by
   shape-refuses (GoodTable l) h e = not-fault e
-  shape-refuses (BadTable r i) h e = let q : Wire r i ≡ why = cc in rw (← q) (table-bad h)
+  shape-refuses (Err it) h e = let q : Wire it.why it.place ≡ why = cc in rw (← q) (table-bad h)
 
   keyed-refuses : (k : Keyed) → keyed k ≡ fault why → Refuses table why
   unfolding keyed

@@ -1,5 +1,6 @@
 -- What was read of a message is written again to no more bytes, and to the same ones exactly if every item was in its shortest form; these are the messages that are read strictly, so that their values and their bytes say the same.
 -- Assumes nothing.
+use Rattle.std.specs.Prelude.{Err}
 use mathlib.Core.Path.{◌≡◌, refl, sym, ap, subst, ◌∙◌}
 use mathlib.Core.Bool.{true, false}
 use mathlib.Core.List.{List, [], ◌++◌, append-nil}
@@ -10,11 +11,12 @@ use lib.ListN.{length, take, drop, replicate, length-replicate}
 use lib.Seq.{length-take-le, take-append_seam}
 use borrow.Author.Tests.{le-leb, eq-eqb}
 use Rattle.wire.specs.declared.Layout.{Layout}
-use Rattle.wire.specs.declared.Checked.{Checked}
-use Rattle.wire.specs.declared.Checked.TheVariants.{Good, Bad}
-use Rattle.wire.specs.declared.ReadAnswer.TheVariants.{Done as Read}
-use Rattle.wire.specs.declared.WriteAnswer.{WriteAnswer}
-use Rattle.wire.specs.declared.WriteAnswer.TheVariants.{Done as Written}
+use Rattle.wire.specs.declared.Reached.{Reached}
+use Rattle.wire.specs.Checked.{Checked}
+use Rattle.wire.specs.Checked.{Good, Bad}
+use Rattle.wire.specs.ReadAnswer.{Done as Read}
+use Rattle.wire.specs.WriteAnswer.{WriteAnswer}
+use Rattle.wire.specs.WriteAnswer.{Done as Written}
 use Rattle.wire.specs.Tests.{pick, given}
 use Rattle.wire.specs.Table.{check, shape_of}
 use Rattle.wire.specs.Values.{Entry, tell}
@@ -79,7 +81,7 @@ unfolding reads read_by
 again table message store limit es x bs e fits = go (check table) refl e
   where
     go : (c : Checked) → check table ≡ c → read_by false c table (room_of store) message ≡ record { made = es; ends = reached x } → Again table message es x.place limit
-    go (Bad why i) q h = let z : ◌≡◌ {A = ℕ} 0 1 = cc (ap (λ r. r.ends) h) in absurd (omega arith)
+    go (Err it) q h = let z : ◌≡◌ {A = ℕ} 0 1 = cc (ap (λ r. r.ends) h) in absurd (omega arith)
     go (Good l) q h =
         let t = shape_of table l in
         let free = (fit-reached (room_of store) (read t (front message)) es x (rw reads_plain at h)).1 in
@@ -101,11 +103,12 @@ done-run r store left n count h = go r.ends refl h.answered
     go : (o : Outcome) → r.ends ≡ o → Read n count ≡ read_answer o (length r.made) → Done r n count left
     go (reached x) e a =
         unfold read_answer in
-        let many : count ≡ length r.made = cc a in
+        let same : ◌≡◌ {A = Reached} (record { place = n; count = count }) (record { place = x.place; count = length r.made }) = cc in
+        let many : count ≡ length r.made = ap (λ q. q.count) same in
         record {
           end = x;
           is = ap (λ o. record { made = r.made; ends = o }) e;
-          place = cc a;
+          place = ap (λ q. q.place) same;
           front = rw h.stored (front-words r.made (words_per * count) store (ap (words_per *◌) (sym many)));
         }
     go (refused why p) e a = unfold read_answer in let z : ◌≡◌ {A = ℕ} 0 1 = cc a in absurd (omega arith)

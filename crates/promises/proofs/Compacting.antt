@@ -1,5 +1,6 @@
 -- What is promised of compaction follows from the laws of `batches`: an answer that is done names what was made, and the laws say what that is.
 -- Assumes nothing.
+use Rattle.std.specs.Prelude.{Ok}
 use mathlib.Core.Path.{◌≡◌, refl, sym, ap, ◌∙◌}
 use mathlib.Core.List.{List}
 use mathlib.Core.Bool.{Bool, true, false}
@@ -15,10 +16,10 @@ use Rattle.wire.specs.Tests.{pick}
 use Rattle.wire.specs.Shape.{Shape}
 use Rattle.desk.specs.declared.Fault.{Fault}
 use Rattle.desk.specs.declared.Fault.TheVariants.{Wire, Missing}
-use Rattle.desk.specs.declared.BatchWritten.TheVariants.{Done as Written, Refused as NotWritten}
-use Rattle.desk.specs.declared.BatchChecked.TheVariants.{Good, Bad}
-use Rattle.desk.specs.declared.BatchFound.{BatchFound}
-use Rattle.desk.specs.declared.BatchFound.TheVariants.{Part as Found, Refused as NotFound}
+use Rattle.desk.specs.BatchWritten.{Done as Written, Refused as NotWritten}
+use Rattle.desk.specs.BatchChecked.{Good, Bad}
+use Rattle.desk.specs.BatchFound.{BatchFound}
+use Rattle.desk.specs.BatchFound.{Part as Found, Refused as NotFound}
 use Rattle.desk.specs.declared.Key.{Key}
 use Rattle.desk.specs.Messages.{Message, Part, last_from}
 use Rattle.desk.specs.Batch.{Or, so, fault, after, tabled, in_room, batch_of, Parts, opened, messages_of, checks, finds_last, or_missing, written_answer, out_with, checked_answer, found_answer, batch_check, batch_last, part_of}
@@ -70,7 +71,7 @@ compacted-once table batch new out c l =
 
 -- an answer's bytes, or its fault
 unfoldable bytes_of : List ℕ → BatchFound → Or (List ℕ)
-bytes_of batch (Found from len) = so (take len (drop from batch))
+bytes_of batch (Ok r) = so (take r.len (drop r.from batch))
 bytes_of batch (NotFound why) = fault why
 
 bytes-of : (batch : List ℕ) (o : Or Part) → bytes_of batch (found_answer o) ≡ found_bytes batch o
@@ -104,13 +105,13 @@ not_found table batch k {why} g x =
 same_bytes : (table batch new : List ℕ) (k : Key) (before after : BatchFound) → batch_check table batch ≡ Good → batch_check table new ≡ Good → Searched table batch k before → Searched table new k after
     → bytes_of new after ≡ bytes_of batch before → SameBytes batch new before after
 unfolding bytes_of
-same_bytes table batch new k (Found from len) (Found from' len') g h x y e =
-    let q : take len' (drop from' new) ≡ take len (drop from batch) = cc in
-    found (part-is (found-lies table new k from' len' y) ∙ q ∙ sym (part-is (found-lies table batch k from len x)))
+same_bytes table batch new k (Ok r) (Ok it) g h x y e =
+    let q : take it.len (drop it.from new) ≡ take r.len (drop r.from batch) = cc in
+    found (part-is (found-lies table new k it.from it.len y) ∙ q ∙ sym (part-is (found-lies table batch k r.from r.len x)))
 same_bytes table batch new k (NotFound why) (NotFound why') g h x y e =
     rw (not_found table batch k g x, not_found table new k h y) missing
-same_bytes table batch new k (Found from len) (NotFound why') g h x y e = not_so e
-same_bytes table batch new k (NotFound why) (Found from' len') g h x y e = not_so (sym e)
+same_bytes table batch new k (Ok r) (NotFound why') g h x y e = not_so e
+same_bytes table batch new k (NotFound why) (Ok r) g h x y e = not_so (sym e)
 
 is-good : (table batch : List ℕ) {ms : List Message} → checks table batch ≡ so ms → batch_check table batch ≡ Good
 unfolding batch_check checked_answer

@@ -1,5 +1,6 @@
 -- The laws of two messages side by side, of the public answers: pairs are the differences of two readings that reached their ends.
 -- Assumes nothing.
+use Rattle.std.specs.Prelude.{Err}
 use mathlib.Core.Path.{◌≡◌, refl, sym, ap, ◌∙◌}
 use mathlib.Core.Bool.{false}
 use mathlib.Core.List.{List, [], ◌∷◌, ◌++◌, append-nil}
@@ -8,8 +9,8 @@ use Prim.Native.Nat.{ℕ, ◌≤◌}
 use native.Mathlib.Omega.{arith}
 use lib.ListN.{length}
 use Rattle.wire.specs.declared.Layout.{Layout}
-use Rattle.wire.specs.declared.Checked.{Checked}
-use Rattle.wire.specs.declared.Checked.TheVariants.{Good, Bad}
+use Rattle.wire.specs.Checked.{Checked}
+use Rattle.wire.specs.Checked.{Good, Bad}
 use Rattle.wire.specs.Shape.{Shape}
 use Rattle.wire.specs.Table.{check, shape_of}
 use Rattle.wire.specs.Values.{Entry, tell, Value, value_of, whole, valued, values}
@@ -21,7 +22,7 @@ use Rattle.laws.proofs.Told.{read_told}
 use Rattle.laws.proofs.Longer.{longer-reads}
 use Rattle.laws.proofs.ReadBy.{reads_plain}
 use Rattle.laws.proofs.Runs.{within-reached, fit-reached}
-use Rattle.desk.specs.declared.CompareAnswer.{CompareAnswer}
+use Rattle.desk.specs.CompareAnswer.{CompareAnswer}
 use Rattle.desk.specs.Path.{most_entries}
 use Rattle.desk.specs.Differ.{Pair, differences, pairs, refuses, compare_runs, compare_reads, compare_by, compares}
 use Rattle.beside.specs.Laws.{turned}
@@ -45,7 +46,7 @@ compares-reads table one other store room = rw room (go (check table))
 
     go : (c : Checked) → FromReads (read_by false c table most_entries one).ends (read_by false c table most_entries other).ends (compare_by c table one other)
     go (Good l) = rw (reads_plain l table most_entries one, reads_plain l table most_entries other) (unfold compare_by compare_reads in runs (shape_of table l) _ _ _ _)
-    go (Bad why i) = unfold compare_by read_by in first
+    go (Err r) = unfold compare_by read_by in first
 
 -- ---- two messages that are compared
 
@@ -106,7 +107,7 @@ tabled table one other ps = go (check table) (λ one' other'. refl)
   where
     go : (c : Checked) → ((one' other' : List ℕ) → compares table one' other' ≡ compare_by c table one' other') → compare_by c table one other ≡ pairs ps → Tabled table one other ps
     go (Good l) e q = unfold compare_by in record { t = shape_of table l; both_read = compared (shape_of table l) one other ps q; again = e }
-    go (Bad why i) e q = unfold compare_by in not-pairs q
+    go (Err r) e q = unfold compare_by in not-pairs q
 
 -- ---- the other way round, few, and the rest
 

@@ -1,5 +1,6 @@
 -- The laws of one item by its path, of the public answers; and one test of each kind's number.
 -- Assumes nothing.
+use Rattle.std.specs.Prelude.{Err}
 use mathlib.Core.Path.{◌≡◌, refl, sym, ◌∙◌}
 use mathlib.Core.Bool.{Bool, true, false}
 use mathlib.Core.List.{List, ◌++◌}
@@ -8,8 +9,8 @@ use Prim.Native.Nat.{ℕ}
 use native.Mathlib.Omega.{arith}
 use borrow.Author.Tests.{ltb-true}
 use Rattle.wire.specs.declared.Layout.{Layout}
-use Rattle.wire.specs.declared.Checked.{Checked}
-use Rattle.wire.specs.declared.Checked.TheVariants.{Good, Bad}
+use Rattle.wire.specs.Checked.{Checked}
+use Rattle.wire.specs.Checked.{Good, Bad}
 use Rattle.wire.specs.Tests.{pick, both, decided}
 use Rattle.wire.specs.Shape.{unit, Kind, plain, same_kind, Shape}
 use Rattle.wire.specs.Table.{kinds, is_kind, kind_of, check, shape_of}
@@ -18,8 +19,8 @@ use Rattle.wire.specs.Values.{Entry}
 use Rattle.wire.specs.Answers.{read_by, reads, may_take}
 use Rattle.laws.proofs.ReadBy.{reads_plain}
 use Rattle.laws.proofs.Rule.{passes, at}
-use Rattle.desk.specs.declared.FindAnswer.{FindAnswer}
-use Rattle.desk.specs.declared.FindAnswer.TheVariants.{NoItem, Refused}
+use Rattle.desk.specs.FindAnswer.{FindAnswer}
+use Rattle.desk.specs.FindAnswer.{NoItem, Refused}
 use Rattle.desk.specs.Path.{is_field, leads, most_entries, find_in, find_of, find_by, finds}
 use Rattle.along.specs.Laws.{FromRead, made, lacking, same, Settled, settled}
 use Rattle.along.specs.Laws as laws
@@ -81,7 +82,7 @@ finds-made table path message store room h = rw room (go (check table) h)
     go : (c : Checked) → (find_by c table path message ≡ NoItem → ⊥)
         → FromRead (read_by false c table most_entries message).made (read_by false c table most_entries message).ends (find_by c table path message)
     go (Good l) h = rw (reads_plain l table most_entries message) (unfold find_by in inside (shape_of table l) (leads (shape_of table l) path) h)
-    go (Bad why i) h = unfold find_by read_by in same
+    go (Err r) h = unfold find_by read_by in same
 
 pub finds-refused : FindsRefused
 finds-refused table path message store room why p e = go (finds-made table path message store room (λ n. never (sym e ∙ n))) e

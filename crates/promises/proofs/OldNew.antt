@@ -1,5 +1,6 @@
 -- A yes is given of good tables only, and asks of their shapes; how the old shape tells the new entries apart decides which of the two cases holds.
 -- Assumes nothing.
+use Rattle.std.specs.Prelude.{Err}
 use mathlib.Core.Path.{◌≡◌, refl, sym, ap, ◌∙◌}
 use mathlib.Core.Bool.{Bool, true, false}
 use mathlib.Core.List.{List, ◌++◌}
@@ -9,9 +10,9 @@ use native.Mathlib.Omega.{arith}
 use lib.ListN.{length}
 use Rattle.wire.specs.declared.Refusal.{Refusal}
 use Rattle.wire.specs.declared.Layout.{Layout}
-use Rattle.wire.specs.declared.Checked.{Checked}
-use Rattle.wire.specs.declared.Checked.TheVariants.{Good, Bad}
-use Rattle.wire.specs.declared.AskAnswer.TheVariants.{Says}
+use Rattle.wire.specs.Checked.{Checked}
+use Rattle.wire.specs.Checked.{Good, Bad}
+use Rattle.wire.specs.AskAnswer.{Says}
 use Rattle.wire.specs.Shape.{Shape}
 use Rattle.wire.specs.Table.{check, shape_of}
 use Rattle.wire.specs.Values.{Entry, Told, kept, lacks, short, tell, Value, Valued, whole, too_short, values}
@@ -39,8 +40,8 @@ says old new good_old good_new = rw (good_old, good_new)
 both-good : (c d : Checked) (old new : List ℕ) → ask_by c d old new ≡ Says true → (l m : Layout) × (c ≡ Good l) × (d ≡ Good m)
 unfolding ask_by
 both-good (Good l) (Good m) old new e = (l, m, refl, refl)
-both-good (Good l) (Bad w i) old new e = let z : ◌≡◌ {A = ℕ} 0 1 = cc in absurd (omega arith)
-both-good (Bad w i) d old new e = let z : ◌≡◌ {A = ℕ} 0 1 = cc in absurd (omega arith)
+both-good (Good l) (Err r) old new e = let z : ◌≡◌ {A = ℕ} 0 1 = cc in absurd (omega arith)
+both-good (Err r) d old new e = let z : ◌≡◌ {A = ℕ} 0 1 = cc in absurd (omega arith)
 
 -- and with an area that is long enough
 yes-long : (old new area : List ℕ) → asks old new area ≡ Says true → ask_by (check old) (check new) old new ≡ Says true

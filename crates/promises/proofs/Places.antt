@@ -1,5 +1,6 @@
 -- A walk over entries without their places is the walk over the entries, place by place left out: so third words change neither a form nor a value. The entries that an old table makes are the first of the new one's, and so are their words.
 -- Assumes nothing.
+use Rattle.std.specs.Prelude.{Err}
 use mathlib.Core.Path.{◌≡◌, refl, sym, ap, ◌∙◌}
 use mathlib.Core.Bool.{Bool, true, false}
 use mathlib.Core.List.{List, [], ◌∷◌, ◌++◌, map-append, append_assoc}
@@ -11,8 +12,8 @@ use lib.ListN.{length, length-append, length-map}
 use lib.Dec.{eqb}
 use lib.Seq.{take_at}
 use Rattle.wire.specs.declared.Refusal.TheVariants.{Values}
-use Rattle.wire.specs.declared.Checked.{Checked}
-use Rattle.wire.specs.declared.Checked.TheVariants.{Good, Bad}
+use Rattle.wire.specs.Checked.{Checked}
+use Rattle.wire.specs.Checked.{Good, Bad}
 use Rattle.wire.specs.Tests.{given}
 use Rattle.wire.specs.Shape.{Kind, Shape}
 use Rattle.wire.specs.Walk.{following, is_known}
@@ -184,7 +185,7 @@ writer-ignores-places table ws ws' pool room h = go (check table)
     go : (c : Checked) → write_by c table ws pool room ≡ write_by c table ws' pool room
     go (Good l) =
         rw h.long (ap (λ f. given (eqb (length ws' % words_per) 0) (λ _. f) (no_form Values (length ws' / words_per))) (forms (shape_of table l)))
-    go (Bad e i) = refl
+    go (Err r) = refl
 
 -- ---- both tables
 

@@ -1,5 +1,6 @@
 -- A reading stays inside its message, so that what it reached stands as far behind the front as its answer tells.
 -- Assumes nothing.
+use Rattle.std.specs.Prelude.{Err}
 use mathlib.Core.Path.{◌≡◌, ap}
 use mathlib.Core.Bool.{false}
 use mathlib.Core.List.{List}
@@ -7,8 +8,8 @@ use Prim.Native.Nat.{ℕ, ◌+◌}
 use native.Mathlib.Nat.{zero-add}
 use native.Mathlib.Omega.{arith}
 use lib.ListN.{drop}
-use Rattle.wire.specs.declared.Checked.{Checked}
-use Rattle.wire.specs.declared.Checked.TheVariants.{Good, Bad}
+use Rattle.wire.specs.Checked.{Checked}
+use Rattle.wire.specs.Checked.{Good, Bad}
 use Rattle.wire.specs.Table.{check, shape_of}
 use Rattle.wire.specs.Values.{Entry}
 use Rattle.wire.specs.Reading.{Spot, past, Outcome, reached, front, read, fit}
@@ -36,4 +37,4 @@ rest-is-left table message store n x = go (check table)
         let fitted = fit (room_of store) run in
         let free = (fit-reached (room_of store) run fitted.made x (ap (λ o. record { made = fitted.made; ends = o }) (rw reads_plain at e))).1 in
         reached-behind message run.made x (read_stays head-sound (shape_of table l) (front message)) (ap (λ r. r.ends) free)
-    go (Bad e i) h = let z : ◌≡◌ {A = ℕ} 0 1 = cc in absurd (omega arith)
+    go (Err r) h = let z : ◌≡◌ {A = ℕ} 0 1 = cc in absurd (omega arith)

@@ -7,10 +7,10 @@ use native.Mathlib.Omega.{arith}
 use lib.ListN.{length, take, drop, length-append}
 use lib.Seq.{take-append_seam, drop-append_seam}
 use Rattle.wire.specs.declared.Layout.{Layout}
-use Rattle.wire.specs.declared.Checked.TheVariants.{Good}
-use Rattle.wire.specs.declared.ReadAnswer.{ReadAnswer}
-use Rattle.wire.specs.declared.ReadAnswer.TheVariants.{Done as Read}
-use Rattle.wire.specs.declared.WriteAnswer.TheVariants.{Done as Written}
+use Rattle.wire.specs.Checked.{Good}
+use Rattle.wire.specs.ReadAnswer.{ReadAnswer}
+use Rattle.wire.specs.ReadAnswer.{Done as Read}
+use Rattle.wire.specs.WriteAnswer.{Done as Written}
 use Rattle.wire.specs.Shape.{Shape}
 use Rattle.wire.specs.Table.{check, shape_of}
 use Rattle.wire.specs.Values.{Entry, SameValues}

@@ -5,7 +5,7 @@ use mathlib.Core.List.{List}
 use mathlib.Core.List as lists
 use Prim.Native.Nat.{ℕ}
 use Rattle.wire.specs.declared.Layout.{Layout}
-use Rattle.wire.specs.declared.Checked.TheVariants.{Good}
+use Rattle.wire.specs.Checked.{Good}
 use Rattle.wire.specs.Shape.{Shape}
 use Rattle.wire.specs.Walk.{walk}
 use Rattle.wire.specs.Table.{check, shape_of}

@@ -1,5 +1,6 @@
 -- The strict reading, the plain one and the telling of its entries go on together, each item first asked for room: what the strict one makes is what the plain one makes up to the first item that isn't in its shortest form.
 -- Assumes nothing.
+use Rattle.std.specs.Prelude.{Err}
 use mathlib.Core.Path.{◌≡◌, refl, sym, ap, ap₂, ◌∙◌}
 use mathlib.Core.Bool.{Bool, true, false}
 use mathlib.Core.Logic.{◌↔◌, ◌⊎◌, inl, inr}
@@ -10,11 +11,11 @@ use lib.ListN.{length, drop}
 use lib.Seq.{drop-drop}
 use Rattle.wire.specs.declared.Refusal.{Refusal}
 use Rattle.wire.specs.declared.Refusal.TheVariants.{NotShortest}
-use Rattle.wire.specs.declared.Checked.{Checked}
-use Rattle.wire.specs.declared.Checked.TheVariants.{Good, Bad}
+use Rattle.wire.specs.Checked.{Checked}
+use Rattle.wire.specs.Checked.{Good, Bad}
 use Rattle.wire.specs.declared.Own.{Own}
-use Rattle.wire.specs.declared.Item.{Item}
-use Rattle.wire.specs.declared.Item.TheVariants.{Took, Refused}
+use Rattle.wire.specs.Item.{Item}
+use Rattle.wire.specs.Item.{Took, Refused}
 use Rattle.wire.specs.Tests.{pick, given, both}
 use Rattle.wire.specs.Shape.{Kind}
 use Rattle.wire.specs.Walk.{Follow, following, is_known, Walk}
@@ -237,7 +238,7 @@ record Readings (c : Checked) (table message : List ℕ) (room : ℕ) : Type 0 w
 
 readings : (c : Checked) (table message : List ℕ) (room : ℕ) → Readings c table message room
 unfolding read_by items_by tell read read_strict
-readings (Bad why i) table message room = record { plain = record { made = []; ends = refused why i }; is_plain = refl; are = unfold entries in refl; is = unfold up_to_longer in refl }
+readings (Err r) table message room = record { plain = record { made = []; ends = refused r.why r.place }; is_plain = refl; are = unfold entries in refl; is = unfold up_to_longer in refl }
 readings (Good l) table message room =
     let t = shape_of table l in
     let plain : Run = fit room (read t (front message)) in

@@ -1,5 +1,6 @@
 -- A plain refusal has a number below 16: of each item, of a run of items, of a store's room and of a table.
 -- Assumes nothing.
+use Rattle.std.specs.Prelude.{Err}
 use mathlib.Core.Path.{subst}
 use mathlib.Core.Bool.{false}
 use mathlib.Core.List.{List, [], ◌∷◌}
@@ -10,11 +11,11 @@ use lib.ListN.{length, take, drop}
 use Rattle.wire.specs.declared.Refusal.{Refusal}
 use Rattle.wire.specs.declared.Refusal.TheVariants.{NotShortest}
 use Rattle.wire.specs.declared.Layout.{Layout}
-use Rattle.wire.specs.declared.Checked.{Checked}
-use Rattle.wire.specs.declared.Checked.TheVariants.{Good, Bad}
+use Rattle.wire.specs.Checked.{Checked}
+use Rattle.wire.specs.Checked.{Good, Bad}
 use Rattle.wire.specs.declared.Own.{Own}
-use Rattle.wire.specs.declared.Item.{Item}
-use Rattle.wire.specs.declared.Item.TheVariants.{Took, Refused}
+use Rattle.wire.specs.Item.{Item}
+use Rattle.wire.specs.Item.{Took, Refused}
 use Rattle.wire.specs.Tests.{both}
 use Rattle.wire.specs.Shape.{Width, w32, w64, Plain, bool, i8, u8, f32, f64, char, unit, int, fixed, Content, Kind, plain, pooled, option, sequence, map, struct, enum}
 use Rattle.wire.specs.Table.{TableForm, size_of, table_form, ending_at, good_trailer, good_in, check_from, check_at, check_as, check, shape_of}
@@ -155,7 +156,7 @@ within-ends (suc room) (e ∷ es) o h = within-ends room es o h
 
 abbrev Tabled : Checked → Type 0
 Tabled (Good l) = Unit {0}
-Tabled (Bad why i) = refusal_number why < 16
+Tabled (Err r) = refusal_number r.why < 16
 
 tabled-from : (form : TableForm) (s : List ℕ) (l : Layout) (i left : ℕ) → Tabled (check_from form s l i left)
 unfolding check_from
@@ -178,7 +179,7 @@ reads-below table message store = go (check table) (tabled table)
   where
     go : (c : Checked) → Tabled c → Ends (read_by false c table (room_of store) message).ends
     go (Good l) h = rw (reads_plain l table (room_of store) message) (unfold fit read in within-ends (room_of store) _ _ ((every plainly (shape_of table l)).ends (front message)))
-    go (Bad why i) h = unfold read_by in h
+    go (Err r) h = unfold read_by in h
 
 pub strict-only : StrictOnly
 strict-only table message store p e = let h : refusal_number NotShortest < 16 = subst Ends e (reads-below table message store) in omega arith

@@ -11,7 +11,7 @@ use lib.Dec.{leb}
 use borrow.Author.Tests.{ne_eqb, le-leb, leb-true}
 use Rattle.wire.specs.declared.Refusal.TheVariants.{Trailer}
 use Rattle.wire.specs.declared.Layout.{Layout}
-use Rattle.wire.specs.declared.Checked.TheVariants.{Bad}
+use Rattle.wire.specs.Checked.{Bad}
 use Rattle.wire.specs.Tests.{pick, given, both}
 use Rattle.wire.specs.Table.{u16_at, first, second, size_of, mark_of, most_nodes, most_bytes, table_form, ending_at, layout_at, good_trailer, node_at, record_of, good_node, chain_of, short_chain, good_in, check_from, check_at, check_as, check}
 use Rattle.wire.specs.Before.{layout_before, good_before, check_from_before, check_at_before, check_before}

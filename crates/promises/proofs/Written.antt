@@ -1,5 +1,6 @@
 -- What was written was written by a good table, of all the entries; so it is what their values spell, and is read back.
 -- Assumes nothing.
+use Rattle.std.specs.Prelude.{Err}
 use mathlib.Core.Path.{◌≡◌, refl, subst, ◌∙◌}
 use mathlib.Core.List.{List, [], ◌∷◌, ◌++◌, append-nil}
 use mathlib.Core.List as lists
@@ -10,8 +11,8 @@ use lib.ListN.{length}
 use borrow.Author.Tests.{eqb-true}
 use Rattle.wire.specs.declared.Refusal.{Refusal}
 use Rattle.wire.specs.declared.Layout.{Layout}
-use Rattle.wire.specs.declared.Checked.{Checked}
-use Rattle.wire.specs.declared.Checked.TheVariants.{Good, Bad}
+use Rattle.wire.specs.Checked.{Checked}
+use Rattle.wire.specs.Checked.{Good, Bad}
 use Rattle.wire.specs.Shape.{Shape}
 use Rattle.wire.specs.Walk.{walk}
 use Rattle.wire.specs.Table.{check, shape_of}
@@ -55,7 +56,7 @@ unfolding writes write_by
 written table ws pool room s = go (check table) refl
   where
     go : (c : Checked) → check table ≡ c → write_by c table ws pool room ≡ form s → Written table ws pool s
-    go (Bad e p) c h = never h
+    go (Err r) c h = never h
     go (Good l) c h =
         of-given (λ (f : Form). f ≡ form s → Written table ws pool s) (eqb (length ws % words_per) 0) _ _
         (λ even h.

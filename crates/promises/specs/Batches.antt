@@ -2,16 +2,16 @@
 -- Assumes nothing.
 use Rattle.std.specs.Prelude.{◌≡◌, List, [], ◌↔◌, ℕ, ◌+◌, ◌^◌, ◌≤◌, length, take, drop}
 use Rattle.wire.specs.declared.Refusal.{Refusal}
-use Rattle.wire.specs.declared.Checked.TheVariants.{Bad as BadTable}
+use Rattle.wire.specs.Checked.{Bad as BadTable}
 use Rattle.wire.specs.Shape.{Shape}
 use Rattle.wire.specs.Table.{check}
 use Rattle.laws.specs.Range.{AreBytes}
 use Rattle.desk.specs.declared.Fault.{Fault}
 use Rattle.desk.specs.declared.Fault.TheVariants.{Wire, Fields, Batch as BadBatch, Missing}
-use Rattle.desk.specs.declared.BatchWritten.TheVariants.{Done as Written, Refused as NotWritten}
-use Rattle.desk.specs.declared.BatchChecked.TheVariants.{Good}
-use Rattle.desk.specs.declared.BatchFound.{BatchFound}
-use Rattle.desk.specs.declared.BatchFound.TheVariants.{Part as Found, Refused as NotFound}
+use Rattle.desk.specs.BatchWritten.{Done as Written, Refused as NotWritten}
+use Rattle.desk.specs.BatchChecked.{Good}
+use Rattle.desk.specs.BatchFound.{BatchFound}
+use Rattle.desk.specs.BatchFound.{Part as Found, Refused as NotFound}
 use Rattle.desk.specs.declared.Key.{Key}
 use Rattle.desk.specs.Messages.{Message, next, next_of, rows_of}
 use Rattle.desk.specs.Batch.{so, tabled, Parts, opened, finds_from_front, found_answer, batch_write, batch_write_out, batch_check, part_of}

@@ -2,10 +2,10 @@
 -- Assumes nothing.
 use Rattle.std.specs.Prelude.{◌↔◌, ◌≡◌, true, List, ℕ, ◌*◌, ◌≤◌, length, take}
 use Rattle.wire.specs.declared.Layout.{Layout}
-use Rattle.wire.specs.declared.Checked.TheVariants.{Good}
-use Rattle.wire.specs.declared.ReadAnswer.TheVariants.{Done as Read}
-use Rattle.wire.specs.declared.WriteAnswer.{WriteAnswer}
-use Rattle.wire.specs.declared.WriteAnswer.TheVariants.{Done as Written}
+use Rattle.wire.specs.Checked.{Good}
+use Rattle.wire.specs.ReadAnswer.{Done as Read}
+use Rattle.wire.specs.WriteAnswer.{WriteAnswer}
+use Rattle.wire.specs.WriteAnswer.{Done as Written}
 use Rattle.wire.specs.Table.{check, shape_of}
 use Rattle.wire.specs.Values.{SameValues}
 use Rattle.wire.specs.Answers.{words_per, entries_of, reads, reads_strict, writes}

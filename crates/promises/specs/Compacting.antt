@@ -5,10 +5,10 @@ use Rattle.wire.specs.declared.Refusal.TheVariants.{Full}
 use Rattle.laws.specs.Range.{AreBytes}
 use Rattle.desk.specs.declared.Fault.{Fault}
 use Rattle.desk.specs.declared.Fault.TheVariants.{Wire, Missing}
-use Rattle.desk.specs.declared.BatchWritten.TheVariants.{Done as Written, Refused as NotWritten}
-use Rattle.desk.specs.declared.BatchChecked.TheVariants.{Good, Bad}
-use Rattle.desk.specs.declared.BatchFound.{BatchFound}
-use Rattle.desk.specs.declared.BatchFound.TheVariants.{Part as Found, Refused as NotFound}
+use Rattle.desk.specs.BatchWritten.{Done as Written, Refused as NotWritten}
+use Rattle.desk.specs.BatchChecked.{Good, Bad}
+use Rattle.desk.specs.BatchFound.{BatchFound}
+use Rattle.desk.specs.BatchFound.{Part as Found, Refused as NotFound}
 use Rattle.desk.specs.declared.Key.{Key}
 use Rattle.desk.specs.Messages.{Message}
 use Rattle.desk.specs.Batch.{batch_check, part_of}

@@ -4,13 +4,13 @@ use Rattle.std.specs.Prelude.{◌≡◌, List, [], ◌++◌, ◌↔◌, ℕ, ◌
 use mathlib.Core.List as lists
 use Rattle.wire.specs.declared.Refusal.{Refusal}
 use Rattle.wire.specs.declared.Layout.{Layout}
-use Rattle.wire.specs.declared.Checked.TheVariants.{Good}
+use Rattle.wire.specs.Checked.{Good}
 use Rattle.wire.specs.Shape.{Shape}
 use Rattle.wire.specs.Table.{check, shape_of}
 use Rattle.wire.specs.Values.{Entry, SameValues}
 use Rattle.wire.specs.Reading.{Spot, Outcome, reached, refused}
 use Rattle.wire.specs.Answers.{room_of, reads}
-use Rattle.desk.specs.declared.CompareAnswer.TheVariants.{Refused, OtherRefused}
+use Rattle.desk.specs.CompareAnswer.{Refused, OtherRefused}
 use Rattle.desk.specs.Path.{most_entries}
 use Rattle.desk.specs.Differ.{Pair, Answered, pairs, refuses, compares}
 use Rattle.beside.specs.Laws.{turned}

@@ -4,12 +4,12 @@ use Rattle.std.specs.Prelude.{◌≡◌, true, List, ◌↔◌, ℕ}
 use Rattle.std.proofs.Math.Option.{none, some}
 use Rattle.wire.specs.declared.Refusal.{Refusal}
 use Rattle.wire.specs.declared.Layout.{Layout}
-use Rattle.wire.specs.declared.Checked.TheVariants.{Good}
+use Rattle.wire.specs.Checked.{Good}
 use Rattle.wire.specs.Shape.{Kind}
 use Rattle.wire.specs.Table.{is_kind, kind_of, check, shape_of}
 use Rattle.wire.specs.Reading.{refused}
 use Rattle.wire.specs.Answers.{room_of, reads, may_take}
-use Rattle.desk.specs.declared.FindAnswer.TheVariants.{NoItem, Refused}
+use Rattle.desk.specs.FindAnswer.{NoItem, Refused}
 use Rattle.desk.specs.Path.{is_field, leads, most_entries, finds}
 use Rattle.along.specs.Laws.{FromRead, Settled}
 

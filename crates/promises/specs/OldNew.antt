@@ -3,8 +3,8 @@
 use Rattle.std.specs.Prelude.{◌≡◌, true, List, ◌∷◌, ◌++◌, ◌↔◌, ℕ, ◌<◌, ◌≤◌, length, get_or, drop}
 use Rattle.wire.specs.declared.Refusal.TheVariants.{Variant}
 use Rattle.wire.specs.declared.Layout.{Layout}
-use Rattle.wire.specs.declared.Checked.TheVariants.{Good}
-use Rattle.wire.specs.declared.AskAnswer.TheVariants.{Says, ShortArea}
+use Rattle.wire.specs.Checked.{Good}
+use Rattle.wire.specs.AskAnswer.{Says, ShortArea}
 use Rattle.wire.specs.Shape.{Shape}
 use Rattle.wire.specs.Table.{check, shape_of}
 use Rattle.wire.specs.Values.{Entry, Tag, kept, lacks, tell, Value, whole, too_short, values}

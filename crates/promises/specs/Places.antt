@@ -2,7 +2,7 @@
 -- Assumes nothing.
 use Rattle.std.specs.Prelude.{◌≡◌, true, List, [], ◌∷◌, ◌++◌, map, ℕ, ◌+◌, ◌*◌, ◌≤◌, length, take}
 use Rattle.std.proofs.Math.Option.{some}
-use Rattle.wire.specs.declared.AskAnswer.TheVariants.{Says}
+use Rattle.wire.specs.AskAnswer.{Says}
 use Rattle.wire.specs.Shape.{Shape}
 use Rattle.wire.specs.Values.{Entry, Tag, values}
 use Rattle.wire.specs.Reading.{Spot, reached}

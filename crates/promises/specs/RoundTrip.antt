@@ -2,12 +2,12 @@
 -- Assumes nothing.
 use Rattle.std.specs.Prelude.{◌↔◌, ◌≡◌, List, [], ◌++◌, ℕ, ◌*◌, ◌≤◌, length, take}
 use Rattle.wire.specs.declared.Layout.{Layout}
-use Rattle.wire.specs.declared.Checked.TheVariants.{Good}
+use Rattle.wire.specs.Checked.{Good}
 use Rattle.wire.specs.declared.Own.{Own}
-use Rattle.wire.specs.declared.Item.TheVariants.{Took}
-use Rattle.wire.specs.declared.ReadAnswer.{ReadAnswer}
-use Rattle.wire.specs.declared.ReadAnswer.TheVariants.{Done as Read}
-use Rattle.wire.specs.declared.WriteAnswer.TheVariants.{Done as Written}
+use Rattle.wire.specs.Item.{Took}
+use Rattle.wire.specs.ReadAnswer.{ReadAnswer}
+use Rattle.wire.specs.ReadAnswer.{Done as Read}
+use Rattle.wire.specs.WriteAnswer.{Done as Written}
 use Rattle.wire.specs.Shape.{Width}
 use Rattle.wire.specs.Table.{check, shape_of}
 use Rattle.wire.specs.Values.{Tag, kept, tell, SameValues}

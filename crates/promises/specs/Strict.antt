@@ -1,14 +1,14 @@
 -- T-06: when an item is in its shortest form, what a strict reading is beside the plain one, and demand 3 for it.
 -- Assumes nothing.
-use Rattle.std.specs.Prelude.{◌↔◌, ◌≡◌, Bool, true, false, List, [], ◌∷◌, ℕ, eqb, length, take, drop}
+use Rattle.std.specs.Prelude.{◌↔◌, ◌≡◌, Bool, true, false, List, [], ◌∷◌, ℕ, eqb, length, take, drop, Err}
 use Rattle.std.proofs.Math.Option.{some}
 use Rattle.wire.specs.declared.Refusal.{Refusal}
 use Rattle.wire.specs.declared.Refusal.TheVariants.{NotShortest}
-use Rattle.wire.specs.declared.Checked.{Checked}
-use Rattle.wire.specs.declared.Checked.TheVariants.{Good, Bad}
+use Rattle.wire.specs.Checked.{Checked}
+use Rattle.wire.specs.Checked.{Good, Bad}
 use Rattle.wire.specs.declared.Own.{Own}
-use Rattle.wire.specs.declared.Item.{Item}
-use Rattle.wire.specs.declared.Item.TheVariants.{Took, Refused}
+use Rattle.wire.specs.Item.{Item}
+use Rattle.wire.specs.Item.{Took, Refused}
 use Rattle.wire.specs.Tests.{both}
 use Rattle.wire.specs.Shape.{w32, w64, Plain, bool, i8, u8, f32, f64, char, unit, int, fixed, Kind, plain, pooled, option, sequence, map, struct, enum}
 use Rattle.wire.specs.Values.{Entry, Tag, Told, kept, lacks, short, tell}
@@ -73,7 +73,7 @@ tags_of (short front) = front
 
 unfoldable pub items_by : Checked → (table : List ℕ) → List Entry → List Tag
 items_by (Good l) table es = tags_of (tell (shape_of table l) es)
-items_by (Bad why i) table es = []
+items_by (Err r) table es = []
 
 -- The items that a table's reading made entries of.
 unfoldable pub items : (table : List ℕ) → List Entry → List Tag

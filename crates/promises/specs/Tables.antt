@@ -3,7 +3,7 @@
 use Rattle.std.specs.Prelude.{◌≡◌, List, ◌↔◌, ℕ, ◌-◌, ◌≤◌, ◌<◌, length, get_or}
 use Rattle.wire.specs.declared.Refusal.TheVariants.{Trailer}
 use Rattle.wire.specs.declared.Layout.{Layout}
-use Rattle.wire.specs.declared.Checked.TheVariants.{Good, Bad}
+use Rattle.wire.specs.Checked.{Good, Bad}
 use Rattle.wire.specs.Table.{u16_at, first, second, chain_of, check_from, check}
 use Rattle.wire.specs.Before.{check_before}
 use Rattle.laws.specs.Range.{AreBytes}

@@ -3,13 +3,15 @@
 use mathlib.Core.Path.{◌≡◌, refl, sym, ap, ◌∙◌}
 use mathlib.Core.Bool.{Bool, true, false}
 use mathlib.Core.List.{List, [], ◌∷◌, ◌++◌, append-nil, append_assoc}
-use Prim.Native.Nat.{ℕ, zero, suc, ◌+◌, ◌-◌, ◌≤◌, ◌<◌, ◌^◌}
+use Prim.Native.Nat.{ℕ, zero, suc, ◌+◌, ◌-◌, ◌*◌, ◌≤◌, ◌<◌, ◌^◌}
 use native.Mathlib.Omega.{arith}
+use lib.Dec.{eqb}
+use borrow.Author.Tests.{ne_eqb}
 use lib.ListN.{length, drop}
 use Rattle.wire.specs.declared.Refusal.{Refusal}
 use Rattle.wire.specs.declared.Own.{Own}
-use Rattle.wire.specs.declared.Item.{Item}
-use Rattle.wire.specs.declared.Item.TheVariants.{Took, Refused as NotTaken}
+use Rattle.wire.specs.Item.{Item}
+use Rattle.wire.specs.Item.{Took, Refused as NotTaken}
 use Rattle.wire.specs.declared.Layout.{Layout}
 use Rattle.wire.specs.Shape.{Kind}
 use Rattle.wire.specs.Table.{u16_at, kind_of, node_at, record_of, shapes_at}
@@ -19,12 +21,12 @@ use Rattle.table.proofs.Stretches.{falls-first}
 use Rattle.output.proofs.Counting.{puts_none}
 use Rattle.desk.specs.Csv.{comma, line_end}
 use Rattle.columns.specs.Columns.{field_shapes, Rowed}
-use Rattle.columns.proofs.Styled.{node-kind, rowed-next}
+use Rattle.columns.proofs.Styled.{node-kind, rowed-next, at_first, at_next}
 use Rattle.put_number.specs.Lays.{Lays}
 use Rattle.put_number.proofs.Laying.{lays-puts, lays-both}
 use Rattle.put_field.specs.Fields.{field_of}
-use Rattle.put_row.specs.declared.Row.{Row}
-use Rattle.put_row.specs.declared.Row.TheVariants.{Laid, Refused}
+use Rattle.put_row.specs.Row.{Row}
+use Rattle.put_row.specs.Row.{Laid, Refused}
 use Rattle.put_row.specs.Rows.{Told, spells, stops, after, separator, field_then, one_field, fields_from, LaysRow, laid, refused}
 use Rattle.put_row.proofs.Items.{behind}
 
@@ -186,3 +188,15 @@ one_inside first message n p h {s} {q} e = go (head (kind_of n) 0 p (drop p mess
     go : (i : Item) → head (kind_of n) 0 p (drop p message) ≡ i → field_then first message (kind_of n) p i (λ q. spells [] q) ≡ spells s q → q ≤ length message
     go (Took own) t e = rw (← (ap place_of e)) (behind n message p h t)
     go (NotTaken r) t e = apart (sym e)
+
+-- the same in front of the i-th field
+module _ (s message : List ℕ) (l : Layout) (from width : ℕ) (before : List ℕ) where
+  abbrev pub GoingAt : (i at to : ℕ) → List ℕ → Type 0
+  GoingAt i at to out = Going s message l from width before (eqb i 0) (from + 2 * i) (width - i) at to out
+
+  pub going-at-first : {out : List ℕ} → Going s message l from width before true from width 0 0 out → GoingAt 0 0 0 out
+  going-at-first {out} g = at_first (λ child left. Going s message l from width before (eqb 0 0) child left 0 0 out) from width g
+
+  pub going-at-next : (i : ℕ) {at to : ℕ} {out : List ℕ} → Going s message l from width before false (from + 2 * i + 2) (width - i - 1) at to out → GoingAt (i + 1) at to out
+  going-at-next i {at} {to} {out} g =
+      rw (ne_eqb (i + 1) 0 (λ e. omega arith)) (at_next (λ child left. Going s message l from width before false child left at to out) from width i g)

@@ -1,2 +1,3 @@
 -- What the contracts cite.
 pub mod Rows
+pub mod Row

@@ -2,16 +2,16 @@
 -- Assumes nothing.
 use Rattle.std.specs.Prelude.{◌≡◌, Bool, true, false, List, [], ◌∷◌, ◌++◌, ℕ, ◌+◌, length, drop}
 use Rattle.wire.specs.declared.Refusal.{Refusal}
-use Rattle.wire.specs.declared.Item.{Item}
-use Rattle.wire.specs.declared.Item.TheVariants.{Took, Refused as NotTaken}
+use Rattle.wire.specs.Item.{Item}
+use Rattle.wire.specs.Item.{Took, Refused as NotTaken}
 use Rattle.wire.specs.Shape.{Kind, Shapes}
 use Rattle.wire.specs.Shape as shapes
 use Rattle.wire.specs.Reading.{head}
 use Rattle.desk.specs.Csv.{comma, line_end, kind_of_root}
 use Rattle.put_number.specs.Lays.{Lays}
 use Rattle.put_field.specs.Fields.{field_of}
-use Rattle.put_row.specs.declared.Row.{Row}
-use Rattle.put_row.specs.declared.Row.TheVariants.{Laid, Refused}
+use Rattle.put_row.specs.Row.{Row}
+use Rattle.put_row.specs.Row.{Laid, Refused}
 
 -- the bytes of a row and the place behind what was read for them, or the reader's own refusal
 pub data Told : Type 0 where

@@ -8,13 +8,14 @@ ghost use Rattle.columns.specs.Columns.{is_some, field_shapes, Rowed};
 ghost use Rattle.put_number.specs.Lays.{Lays};
 ghost use Rattle.put_row.specs.Rows.{separator, one_field, fields_from, LaysRow};
 
-use wire::{Item, Layout, Refusal};
+use columns::Columns;
+use wire::{Layout, RefusedAt};
 
-// So many bytes are laid, of what was read up to a place of the message; or the reader's own refusal.
+// A row that is laid so far: the place behind what was read of its message, and its length.
 #[derive(Clone, Copy)]
-pub enum Row {
-    Laid { place: usize, len: usize },
-    Refused { why: Refusal, place: usize },
+pub struct Laid {
+    pub place: usize,
+    pub len: usize,
 }
 
 // The comma in front of a field that isn't the first.
@@ -35,61 +36,51 @@ fn put_end(out: &mut [u8], used: usize) -> usize
     output::put_byte(b'\n', out, next)
 }
 
-// The field of a kind that stands at a place of the message.
+// The field of a kind that comes next, behind what is laid.
 fn put_next(
     first: bool,
     number: u8,
     message: &[u8],
-    place: usize,
+    laid: Laid,
     out: &mut [u8],
-    used: usize,
-) -> Row
-    requires place_in_bounds { place ≤ length message.now }
+) -> Result<Laid, RefusedAt>
+    requires place_in_bounds { laid.place ≤ length message.now }
     requires number_value { is_some (style_of (kind_of number)) ≡ true }
-    ensures { LaysRow (one_field first message.now (kind_of number) place) used out.old result out.new }
+    ensures { LaysRow (one_field first message.now (kind_of number) laid.place) laid.len out.old result out.new }
 {
-    let got = leaf::take(number, &message[place..], place);
-    match got {
-        Item::Refused { why } => Row::Refused { why, place },
-        Item::Took { own } => {
-            let behind = place + own.used;
-            let next = put_between(first, out, used);
-            let len = put_field::put_field(number, own.first, own.second, message, out, next);
-            Row::Laid { place: behind, len }
+    let place = laid.place;
+    match leaf::take(number, &message[place..], place) {
+        Err(why) => Err(RefusedAt { why, place }),
+        Ok(own) => {
+            let used = put_between(first, out, laid.len);
+            let len = put_field::put_field(number, own.first, own.second, message, out, used);
+            Ok(Laid {
+                place: place + own.used,
+                len,
+            })
         }
     }
 }
 
-// The row of a message whose fields' numbers, so many, stand at `from` in the table.
+// The row of a message whose fields' numbers stand in the table.
 pub fn put_row(
     table: &[u8],
     l: Layout,
-    from: usize,
-    width: usize,
+    fields: Columns,
     message: &[u8],
     out: &mut [u8],
-) -> Row
-    requires { Rowed table.now l from width }
-    ensures { LaysRow (fields_from message.now true (field_shapes table.now l from width) 0) 0 out.old result out.new }
+) -> Result<Laid, RefusedAt>
+    requires { Rowed table.now l fields.from fields.width }
+    ensures { LaysRow (fields_from message.now true (field_shapes table.now l fields.from fields.width) 0) 0 out.old result out.new }
 {
-    let mut child = from;
-    let mut left = width;
-    let mut first = true;
-    let mut at: usize = 0;
-    let mut to: usize = 0;
-    while 0 < left {
-        let c = table::u16_at(table, child);
-        let number = table::kind_at(table, l, c);
-        let got = put_next(first, number, message, at, out, to);
-        let Row::Laid { place, len } = got else {
-            return got;
-        };
-        at = place;
-        to = len;
-        first = false;
-        child = child + 2;
-        left = left - 1;
+    let mut laid = Laid { place: 0, len: 0 };
+    for i in 0..fields.width {
+        let number = fields.kind(table, l, i);
+        laid = put_next(i == 0, number, message, laid, out)?;
     }
-    let len = put_end(out, to);
-    Row::Laid { place: at, len }
+    let len = put_end(out, laid.len);
+    Ok(Laid {
+        place: laid.place,
+        len,
+    })
 }

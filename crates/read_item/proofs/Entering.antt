@@ -9,8 +9,8 @@ use lib.ListN.{length}
 use Rattle.wire.specs.declared.Refusal.{Refusal}
 use Rattle.wire.specs.declared.Refusal.TheVariants.{Room}
 use Rattle.wire.specs.declared.Own.{Own}
-use Rattle.wire.specs.declared.Item.{Item}
-use Rattle.wire.specs.declared.Item.TheVariants.{Took, Refused}
+use Rattle.wire.specs.Item.{Item}
+use Rattle.wire.specs.Item.{Took, Refused}
 use Rattle.wire.specs.declared.Layout.{Layout}
 use Rattle.wire.specs.Walk.{each, following, is_known, times, along, walks}
 use Rattle.wire.specs.Table.{kind_of, Node, node_at, record_of}
@@ -27,7 +27,8 @@ use Rattle.table.specs.declared.Stretch.{Stretch}
 use Rattle.table.specs.Parts.{Falls, followed, node_step, rounds_step}
 use Rattle.table.proofs.Stretches.{node-falls, falls-followed, along-followed}
 use Rattle.entry.specs.Words.{with_entry}
-use Rattle.read_item.specs.declared.Entered.TheVariants.{On, Refused as Refusing}
+use Rattle.read_item.specs.Entered.{Entered}
+use Rattle.read_item.specs.Entered.{On, Refused as Refusing}
 use Rattle.read_item.specs.Lay.{Left, lay}
 use Rattle.read_item.specs.Steps.{spot, own_of, after_of, Enters, goes, stops}
 use Rattle.read_item.proofs.Laying.{left, laid_none, lay-nothing, lay-entry, lay-refused}
@@ -45,8 +46,8 @@ module _ {r : Node} {k n : ℕ} (f : Found r k n) (h : Head) (bs : List ℕ) (p 
   own_is = sym (found ∙ ap₂ (λ (k n : ℕ). h (kind_of k) n p bs) f.kind f.count)
 
   module _ {l : Layout} {i m : ℕ} {s : List ℕ} where
-    pub enters-same : {e : Refusal} → got ≡ Refused e → Enters l i r p m s (own_of h r (spot bs p)) (Refusing e) s
-    enters-same q = rw (own_is ∙ q) stops
+    pub enters-same : {e : Refusal} {a : Entered} → got ≡ Refused e → a ≡ Refusing e → Enters l i r p m s (own_of h r (spot bs p)) a s
+    enters-same q w = rw (own_is ∙ q, w) stops
 
     pub enters_on : {own : Own} (from : ℕ) {to : Stretch} {t : List ℕ} → got ≡ Took own → from ≡ node_first l i r → to ≡ followed (following (kind_of k) own.first) from n
         → t ≡ with_entry own.first own.second p m s → Enters l i r p m s (own_of h r (spot bs p)) (On to own.used) t

@@ -11,9 +11,9 @@ use borrow.Author.Tests.{lt-ltb, le-ltb}
 use Rattle.wire.specs.declared.Refusal.{Refusal}
 use Rattle.wire.specs.declared.Refusal.TheVariants.{BadOption, Variant, NotShortest}
 use Rattle.wire.specs.declared.Own.{Own}
-use Rattle.wire.specs.declared.Item.{Item}
-use Rattle.wire.specs.declared.Item.TheVariants.{Took, Refused}
-use Rattle.wire.specs.declared.ReadAnswer.TheVariants.{Done, Refused as NotRead}
+use Rattle.wire.specs.Item.{Item}
+use Rattle.wire.specs.Item.{Took, Refused}
+use Rattle.wire.specs.ReadAnswer.{Done, Refused as NotRead}
 use Rattle.wire.specs.Tests.{pick, both}
 use Rattle.wire.specs.Shape.{w32, w64, Kind}
 use Rattle.wire.specs.Numbers.{varint, took}
@@ -27,8 +27,8 @@ use Rattle.laws.proofs.EachKind.{end, ◌&◌, in-kinds, outer-kinds}
 use Rattle.entry.specs.Words.{with_entry}
 use Rattle.leaf.specs.Leaves.{leaf_take_at}
 use Rattle.leaf.proofs.Leaves.{low-leaf, high-leaf, is_leaf_lem, low-place}
-use Rattle.read_item.specs.declared.Int.{Int}
-use Rattle.read_item.specs.declared.Int.TheVariants.{Is}
+use Rattle.read_item.specs.Int.{Int}
+use Rattle.read_item.specs.Int.{Is}
 use Rattle.read_item.specs.Steps.{Ends, within, nowhere, TakesInt, is, Puts, entry, same}
 
 -- ---- a variant's number

@@ -3,11 +3,11 @@
 use Rattle.std.specs.Prelude.{◌≡◌, List, ℕ, ◌+◌, ◌^◌, ◌<◌}
 use Rattle.wire.specs.declared.Refusal.{Refusal}
 use Rattle.wire.specs.declared.Own.{Own}
-use Rattle.wire.specs.declared.Item.{Item}
-use Rattle.wire.specs.declared.Item.TheVariants.{Took, Refused as NotTaken}
+use Rattle.wire.specs.Item.{Item}
+use Rattle.wire.specs.Item.{Took, Refused as NotTaken}
 use Rattle.wire.specs.declared.Layout.{Layout}
-use Rattle.wire.specs.declared.ReadAnswer.{ReadAnswer}
-use Rattle.wire.specs.declared.ReadAnswer.TheVariants.{Done, Refused as NotRead}
+use Rattle.wire.specs.ReadAnswer.{ReadAnswer}
+use Rattle.wire.specs.ReadAnswer.{Done, Refused as NotRead}
 use Rattle.wire.specs.Walk.{following}
 use Rattle.wire.specs.Table.{kind_of, Node, node_at, record_of}
 use Rattle.wire.specs.Reading.{head, Head, Spot}
@@ -16,10 +16,10 @@ use Rattle.laws.specs.Tables.{node_kind, node_first, node_count}
 use Rattle.table.specs.declared.Stretch.{Stretch}
 use Rattle.table.specs.Parts.{followed}
 use Rattle.entry.specs.Words.{with_entry}
-use Rattle.read_item.specs.declared.Int.{Int}
-use Rattle.read_item.specs.declared.Int.TheVariants.{Is, Other}
-use Rattle.read_item.specs.declared.Entered.{Entered}
-use Rattle.read_item.specs.declared.Entered.TheVariants.{On, Refused}
+use Rattle.read_item.specs.Int.{Int}
+use Rattle.read_item.specs.Int.{Is, Other}
+use Rattle.read_item.specs.Entered.{Entered}
+use Rattle.read_item.specs.Entered.{On, Refused}
 
 abbrev pub spot : List ℕ → ℕ → Spot
 spot s p = record { bytes = s; place = p }

@@ -1,8 +1,7 @@
 // One item of a message: its own bytes, and its entry, which is stored where the store has words for it.
 #![tactic(auto)]
 
-ghost use Rattle.std.specs.Prelude.{◌≡◌, not, ◌+◌, ◌^◌, ◌<◌, length};
-ghost use Rattle.wire.specs.Tests.{both};
+ghost use Rattle.std.specs.Prelude.{◌≡◌, ◌+◌, ◌^◌, ◌<◌, length};
 ghost use Rattle.wire.specs.Table.{kind_of, node_at, record_of};
 ghost use Rattle.wire.specs.Reading.{known as known_of, head as head_of, judged, head_by};
 ghost use Rattle.laws.specs.KindRanges.{IsInner};
@@ -11,159 +10,109 @@ ghost use Rattle.leaf.specs.Leaves.{leaf_take_at};
 ghost use Rattle.read_item.specs.Steps.{spot, Inner, own_of, Ends, TakesInt, Puts, Enters};
 
 use table::Stretch;
-use wire::{Item, Layout, Own, ReadAnswer, Refusal};
+use wire::{Layout, Own, Reached, Refusal, Stopped};
 
-// What an item leaves to do: the stretch that follows it, behind the bytes that it took; or why it is refused.
+// What follows the entry of an item that has children, and the item's own bytes.
 #[derive(Clone, Copy)]
-pub enum Entered {
-    On { to: Stretch, used: usize },
-    Refused { why: Refusal },
+pub struct Inside {
+    pub to: Stretch,
+    pub used: usize,
 }
 
 // ---- an item's own bytes
 
 // A variant's number is one of the table's.
-pub fn known(count: usize, got: Item) -> Item
+pub fn known(count: usize, got: Result<Own, Refusal>) -> Result<Own, Refusal>
     ensures { result ≡ known_of count got }
 {
-    let Item::Took { own } = got else {
+    let Ok(own) = got else {
         return got;
     };
     if own.first < count as u64 {
-        // Made anew, so that it stays in registers.
-        return Item::Took {
-            own: Own {
-                first: own.first,
-                second: own.second,
-                used: own.used,
-                shortest: own.shortest,
-            },
-        };
+        return Ok(own);
     }
-    Item::Refused {
-        why: Refusal::Variant,
-    }
+    Err(Refusal::Variant)
 }
 
 // The own bytes of an item that has children: so many, of which a variant's number names one.
-fn head_bytes(number: u8, count: usize, part: &[u8], place: usize) -> Item
+fn head_bytes(number: u8, count: usize, part: &[u8], place: usize) -> Result<Own, Refusal>
     requires { IsInner number }
     ensures { result ≡ head_of (kind_of number) count place part.now }
 {
     match number {
         15 => leaf::take_flag(part, Refusal::BadOption),
-        18 => Item::Took {
-            own: Own {
-                first: 0,
-                second: 0,
-                used: 0,
-                shortest: true,
-            },
-        },
+        18 => Ok(Own {
+            first: 0,
+            second: 0,
+            used: 0,
+            shortest: true,
+        }),
         19 => known(count, varint::take_u32(part)),
-        _ => varint::take(part, varint::U64::MOST, varint::U64::LAST),
+        _ => varint::take::<varint::U64>(part),
     }
 }
 
 // ---- forms
 
-// Whether a strict reading refuses an item that was taken, for its form.
-fn is_longer(strict: bool, shortest: bool) -> bool
-    ensures { result ≡ both strict (not shortest) }
-{
-    if strict {
-        return !shortest;
-    }
-    false
-}
-
 // An item as a strict reading takes it, or as the plain one does: a form that isn't the shortest is refused, after every other
-// refusal of the item. It is made anew, so that one that a call left in memory goes on in registers.
-fn judge(strict: bool, got: Item) -> Item
+// refusal of the item.
+fn judge(strict: bool, got: Result<Own, Refusal>) -> Result<Own, Refusal>
     ensures { result ≡ judged strict got }
 {
-    let Item::Took { own } = got else {
+    let Ok(own) = got else {
         return got;
     };
-    if is_longer(strict, own.shortest) {
-        return Item::Refused {
-            why: Refusal::NotShortest,
-        };
+    if strict && !own.shortest {
+        return Err(Refusal::NotShortest);
     }
-    Item::Took {
-        own: Own {
-            shortest: own.shortest,
-            first: own.first,
-            second: own.second,
-            used: own.used,
-        },
-    }
+    Ok(own)
 }
 
 // ---- a leaf
 
-// The own bytes of an integer that isn't of fixed size, or that the kind is another.
-#[derive(Clone, Copy)]
-pub enum Int {
-    Is { item: Item },
-    Other,
-}
-
-// An integer, read plainly. It is taken here, as `leaf::take` does it: that has several callers and so stays a call, which
-// costs more than most integers. It is apart from other leaves and from strict readings, whose items come by that call,
-// since it is what most messages hold most of; and it finds out whether it is one by the same step that takes it.
-pub fn int_bytes(number: u8, part: &[u8]) -> Int
+// An integer, read plainly, or that the kind is another's. It is apart from other leaves and from strict readings, since it is
+// what most messages hold most of; and it is inlined, since a call costs more than most integers.
+#[inline(always)]
+pub fn int_bytes(number: u8, part: &[u8]) -> Option<Result<Own, Refusal>>
     ensures { TakesInt number part.now result }
 {
     match number {
-        1 => Int::Is {
-            item: fixint::take8(part, true),
-        },
-        2 => Int::Is {
-            item: leaf::unzigzag(varint::take_u16(part)),
-        },
-        3 => Int::Is {
-            item: leaf::unzigzag(varint::take_u32(part)),
-        },
-        4 => Int::Is {
-            item: leaf::unzigzag(varint::take(part, varint::U64::MOST, varint::U64::LAST)),
-        },
-        5 => Int::Is {
-            item: fixint::take8(part, false),
-        },
-        6 => Int::Is {
-            item: varint::take_u16(part),
-        },
-        7 => Int::Is {
-            item: varint::take_u32(part),
-        },
-        8 => Int::Is {
-            item: varint::take(part, varint::U64::MOST, varint::U64::LAST),
-        },
-        _ => Int::Other,
+        1 => Some(fixint::take8(part, true)),
+        2 => Some(leaf::unzigzag(varint::take_u16(part))),
+        3 => Some(leaf::unzigzag(varint::take_u32(part))),
+        4 => Some(leaf::unzigzag(varint::take::<varint::U64>(part))),
+        5 => Some(fixint::take8(part, false)),
+        6 => Some(varint::take_u16(part)),
+        7 => Some(varint::take_u32(part)),
+        8 => Some(varint::take::<varint::U64>(part)),
+        _ => None,
     }
 }
 
 // The entry of a leaf, or why it is refused.
-pub fn lay(got: Item, place: usize, store: &mut [u64], made: usize) -> ReadAnswer
+pub fn lay(
+    got: Result<Own, Refusal>,
+    place: usize,
+    store: &mut [u64],
+    made: usize,
+) -> Result<Reached, Stopped>
     requires ends { Ends place got }
     requires made_bound { made + 1 < 2 ^ 64 }
     ensures { Puts place made store.old got result store.new }
 {
     match got {
-        Item::Refused { why } => ReadAnswer::Refused {
+        Err(why) => Err(Stopped {
             why,
             place,
             count: made,
-        },
-        Item::Took { own } => {
+        }),
+        Ok(own) => {
             entry::put(store, made, own.first, own.second, place);
             let behind = place + own.used;
-            let count = made + 1;
-            ReadAnswer::Done {
+            Ok(Reached {
                 place: behind,
-                count,
-            }
+                count: made + 1,
+            })
         }
     }
 }
@@ -176,7 +125,7 @@ pub fn read_leaf(
     place: usize,
     store: &mut [u64],
     made: usize,
-) -> ReadAnswer
+) -> Result<Reached, Stopped>
     requires part_bound { place + length part.now < 2 ^ 64 }
     requires made_bound { made + 1 < 2 ^ 64 }
     ensures { Puts place made store.old (judged strict (leaf_take_at number place part.now)) result store.new }
@@ -188,6 +137,7 @@ pub fn read_leaf(
 // ---- an item that has children
 
 // The entry of an item that has children, and what follows.
+#[inline(always)]
 pub fn enter(
     strict: bool,
     table: &[u8],
@@ -198,26 +148,16 @@ pub fn enter(
     place: usize,
     store: &mut [u64],
     made: usize,
-) -> Entered
+) -> Result<Inside, Refusal>
     requires good_table { GoodTable table.now l }
     requires node_lt_nodes { node < l.nodes }
     requires inner { Inner table.now l node number }
     ensures { Enters l node (node_at table.now (record_of l node)) place made store.old (own_of (head_by strict) (node_at table.now (record_of l node)) (spot part.now place)) result store.new }
 {
     let width = table::child_count(table, l, node);
-    let got = head_bytes(number, width, part, place);
-    match got {
-        Item::Refused { why } => Entered::Refused { why },
-        Item::Took { own } => {
-            if is_longer(strict, own.shortest) {
-                return Entered::Refused {
-                    why: Refusal::NotShortest,
-                };
-            }
-            entry::put(store, made, own.first, own.second, place);
-            let from = table::first_child(table, l, node);
-            let to = table::follow(number, own.first, from, width);
-            Entered::On { to, used: own.used }
-        }
-    }
+    let own = judge(strict, head_bytes(number, width, part, place))?;
+    entry::put(store, made, own.first, own.second, place);
+    let from = table::first_child(table, l, node);
+    let to = table::follow(number, own.first, from, width);
+    Ok(Inside { to, used: own.used })
 }

@@ -1,5 +1,6 @@
 -- The contracts of the public calls, from what the cycle gives for the root, whose number stands in the trailer, or from the root's own item where it is a leaf: with a store's own room, and with none; and a row skimmed.
 -- Assumes nothing.
+use Rattle.std.specs.Prelude.{Err}
 use mathlib.Core.Path.{◌≡◌, refl, sym, ap, ap₂, ◌∙◌}
 use mathlib.Core.Bool.{Bool, false}
 use mathlib.Core.List.{List, [], ◌∷◌}
@@ -9,12 +10,12 @@ use native.Mathlib.Omega.{arith}
 use lib.ListN.{length, drop}
 use lib.Seq.{take_all, sets-eq}
 use Rattle.wire.specs.declared.Refusal.{Refusal}
-use Rattle.wire.specs.declared.Item.{Item}
+use Rattle.wire.specs.Item.{Item}
 use Rattle.wire.specs.declared.Layout.{Layout}
-use Rattle.wire.specs.declared.Checked.{Checked}
-use Rattle.wire.specs.declared.Checked.TheVariants.{Good, Bad}
-use Rattle.wire.specs.declared.ReadAnswer.{ReadAnswer}
-use Rattle.wire.specs.declared.ReadAnswer.TheVariants.{Done, Refused}
+use Rattle.wire.specs.Checked.{Checked}
+use Rattle.wire.specs.Checked.{Good, Bad}
+use Rattle.wire.specs.ReadAnswer.{ReadAnswer}
+use Rattle.wire.specs.ReadAnswer.{Done, Refused}
 use Rattle.wire.specs.Walk.{times, walk}
 use Rattle.wire.specs.Table.{u16_at, node_at, record_of, check, shape_of}
 use Rattle.wire.specs.Values.{Entry}
@@ -91,7 +92,7 @@ few (suc room) (e ∷ es) o = let h = few room es o in omega arith
 by-few : (strict : Bool) (c : Checked) (table : List ℕ) (room : ℕ) (message : List ℕ) → length (read_by strict c table room message).made ≤ room
 unfolding read_by fit
 by-few strict (Good l) table room message = few room _ _
-by-few strict (Bad e i) table room message = omega arith
+by-few strict (Err r) table room message = omega arith
 
 -- so many entries have their words
 in-front : (es : List Entry) (s : List ℕ) → length es ≤ room_of s → store_from es 0 s ≡ store_with es s

@@ -7,7 +7,7 @@ use Prim.Native.Nat.{ℕ, ◌+◌}
 use native.Mathlib.Nat.{add-zero}
 use native.Mathlib.Omega.{arith}
 use Rattle.wire.specs.declared.Refusal.TheVariants.{Room}
-use Rattle.wire.specs.declared.ReadAnswer.TheVariants.{Refused}
+use Rattle.wire.specs.ReadAnswer.{Refused}
 use Rattle.wire.specs.Values.{Entry}
 use Rattle.wire.specs.Reading.{Head, Spot, Outcome, reached, refused, Run, run_after, read_on, read_then, past, enter, read_item, reading}
 use Rattle.laws.specs.Heads.{Sound}
@@ -16,8 +16,8 @@ use Rattle.entry.specs.Words.{with_entry}
 use Rattle.read_item.specs.Lay.{Left, lay}
 use Rattle.read_item.specs.Steps.{spot}
 use Rattle.read_item.proofs.Laying.{lay-entry, lay-full}
-use Rattle.reader.specs.declared.Begun.{Begun}
-use Rattle.reader.specs.declared.Begun.TheVariants.{At, Full}
+use Rattle.reader.specs.Begun.{Begun}
+use Rattle.reader.specs.Begun.{At, Full}
 use Rattle.reader.specs.Steps.{Gives, Begins, bare, put, full}
 use Rattle.reader.proofs.Laying.{gives-refused}
 

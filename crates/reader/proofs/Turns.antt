@@ -7,10 +7,10 @@ use Prim.Native.Nat.{ℕ, ◌+◌, ◌-◌, ◌<◌, ◌≤◌, ◌^◌}
 use native.Mathlib.Omega.{arith}
 use lib.ListN.{length, take, drop}
 use Rattle.wire.specs.declared.Refusal.{Refusal}
-use Rattle.wire.specs.declared.Item.{Item}
+use Rattle.wire.specs.Item.{Item}
 use Rattle.wire.specs.declared.Layout.{Layout}
-use Rattle.wire.specs.declared.ReadAnswer.{ReadAnswer}
-use Rattle.wire.specs.declared.ReadAnswer.TheVariants.{Done, Refused}
+use Rattle.wire.specs.ReadAnswer.{ReadAnswer}
+use Rattle.wire.specs.ReadAnswer.{Done, Refused}
 use Rattle.wire.specs.Table.{u16_at, kind_of, node_at, record_of, shapes_at}
 use Rattle.wire.specs.Reading.{Head, Spot, Outcome, reached, refused, Run, head, judged, head_by, past, read_then, reading, fit}
 use Rattle.wire.specs.Answers.{read_answer}
@@ -26,9 +26,11 @@ use Rattle.table.specs.declared.Stretch.{Stretch}
 use Rattle.table.specs.declared.Way.{Way}
 use Rattle.table.specs.Parts.{Flat, under, node_step, row_step, rounds_step}
 use Rattle.table.proofs.Stretches.{row-end, row_first, rounds-end, rounds-first, flat-rounds}
-use Rattle.read_item.specs.declared.Entered.{Entered}
-use Rattle.read_item.specs.declared.Entered.TheVariants.{On}
-use Rattle.read_item.specs.declared.Entered.TheVariants as entered
+use Rattle.laws.proofs.Answers.{same-done, same-refused}
+use Rattle.read_item.specs.declared.Inside.{Inside}
+use Rattle.read_item.specs.Entered.{Entered}
+use Rattle.read_item.specs.Entered.{On}
+use Rattle.read_item.specs.Entered as entered
 use Rattle.read_item.specs.Lay.{Left, laid, lay}
 use Rattle.read_item.specs.Steps.{spot, own_of, after_of, Puts, entry, same, Enters, goes, stops}
 use Rattle.read_item.proofs.Laying.{lay-nothing, on_by, lay-then}
@@ -74,7 +76,7 @@ module _ (f : Spot → Run) (steady : (x : Spot) → Stays x (f x).made (f x).en
       where
         go : (o : Outcome) → read_answer o (m + length (fit room (f (spot bs at))).made) ≡ Refused e p n → o ≡ refused e p
         go (reached y) q = let z : ◌≡◌ {A = ℕ} 0 1 = cc in absurd (omega arith)
-        go (refused r i) q = let x : r ≡ e = cc in let y : i ≡ p = cc in rw (x, y)
+        go (refused r i) q = let same = same-refused q in rw (same.0, same.1)
 
     pub said-done : {q n : ℕ} → a ≡ Done q n
         → Went bs at q × ((fit room (f (spot bs at))).ends ≡ reached (spot (from bs at q) q)) × (n ≡ m + length (fit room (f (spot bs at))).made)
@@ -85,10 +87,9 @@ module _ (f : Spot → Run) (steady : (x : Spot) → Stays x (f x).made (f x).en
             → Went bs at q × (o ≡ reached (spot (from bs at q) q)) × (n ≡ m + length (fit room (f (spot bs at))).made)
         go (refused r i) e j = let z : ◌≡◌ {A = ℕ} 0 1 = cc in absurd (omega arith)
         go (reached y) e j =
-            let p : y.place ≡ q = cc in
-            let c : m + length (fit room (f (spot bs at))).made ≡ n = cc in
-            let there = arrived y p e in
-            (there.0, ap reached there.1, sym c)
+            let same = same-done j in
+            let there = arrived y same.0 e in
+            (there.0, ap reached there.1, sym same.1)
 
 -- f is called, which stays inside its bytes, and g is left
 module _ (room : ℕ) (f g : Spot → Run) (steady : (x : Spot) → Stays x (f x).made (f x).ends) (w : Left) (bs : List ℕ) (at sofar : ℕ) (store : List ℕ)
@@ -114,10 +115,9 @@ module _ (room : ℕ) (f g : Spot → Run) (steady : (x : Spot) → Stays x (f x
       go : (o : Outcome) → v.ends ≡ o → read_answer o v.count ≡ Done q n → w ≡ on_by room o v g → Went bs at q × (w ≡ lay room (g (spot (from bs at q) q)) n st)
       go (refused r i) e j s = let z : ◌≡◌ {A = ℕ} 0 1 = cc in absurd (omega arith)
       go (reached y) e j s =
-          let p : y.place ≡ q = cc in
-          let c : v.count ≡ n = cc in
-          let there = arrived f steady bs at (room - sofar) y p e in
-          (there.0, s ∙ rw (there.1, c, ← called.stored))
+          let same = same-done j in
+          let there = arrived f steady bs at (room - sofar) y same.0 e in
+          (there.0, s ∙ rw (there.1, same.1, ← called.stored))
 
 -- ---- one node after the other, and one round after the other
 
@@ -166,8 +166,9 @@ module _ (h : Head) (room : ℕ) {s : List ℕ} {l : Layout} {i : ℕ} (g : Good
             → q ≡ On to u → Goes h room (lay room (node_step (reading h) s l i (spot bs p)) m store) s l i (spot bs p) m to u t
         go o stops k = let z : ◌≡◌ {A = ℕ} 0 1 = cc in absurd (omega arith)
         go o (goes {own}) k =
-            let way : after_of l i (node_at s (record_of l i)) own.first ≡ to = cc in
-            let used : own.used ≡ u = cc in
+            let same : ◌≡◌ {A = Inside} (record { to = after_of l i (node_at s (record_of l i)) own.first; used = own.used }) (record { to = to; used = u }) = cc in
+            let way : after_of l i (node_at s (record_of l i)) own.first ≡ to = ap (λ r. r.to) same in
+            let used : own.used ≡ u = ap (λ r. r.used) same in
             rw (← way, ← used) (item-goes h room g below (spot bs p) m store some sound o)
 
   -- a leaf that was read

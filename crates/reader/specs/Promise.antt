@@ -1,7 +1,7 @@
 -- That the contracts of the public calls leave no choice.
 -- Assumes nothing.
 use Rattle.std.specs.Prelude.{◌≡◌, List, ℕ}
-use Rattle.wire.specs.declared.ReadAnswer.{ReadAnswer}
+use Rattle.wire.specs.ReadAnswer.{ReadAnswer}
 use Rattle.wire.specs.Reading.{Run}
 use Rattle.wire.specs.Answers.{skims, rest_of}
 use Rattle.laws.specs.Answered.{Reads}

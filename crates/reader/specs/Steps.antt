@@ -1,13 +1,13 @@
 -- What a function of the cycle leaves, and how a round begins.
 -- Assumes nothing.
 use Rattle.std.specs.Prelude.{◌≡◌, Bool, true, false, List, ℕ, ◌+◌, ◌≤◌, ◌<◌, length}
-use Rattle.wire.specs.declared.ReadAnswer.{ReadAnswer}
+use Rattle.wire.specs.ReadAnswer.{ReadAnswer}
 use Rattle.wire.specs.Reading.{Run}
 use Rattle.wire.specs.Answers.{read_answer}
 use Rattle.entry.specs.Words.{with_entry}
 use Rattle.read_item.specs.Lay.{Left}
-use Rattle.reader.specs.declared.Begun.{Begun}
-use Rattle.reader.specs.declared.Begun.TheVariants.{At, Full}
+use Rattle.reader.specs.Begun.{Begun}
+use Rattle.reader.specs.Begun.{At, Full}
 
 -- a function's answer, and its store as it returns
 pub record Gives (w : Left) (a : ReadAnswer) (s : List ℕ) : Type 0 where

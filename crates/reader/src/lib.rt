@@ -12,30 +12,29 @@ ghost use Rattle.read_item.specs.Lay.{laid, lay};
 ghost use Rattle.read_item.specs.Steps.{spot, Inner};
 ghost use Rattle.reader.specs.Steps.{Gives, answer_behind, Begins};
 
-use read_item::{Entered, Int};
-use wire::{Checked, Layout, ReadAnswer, Refusal};
+use read_item::Inside;
+use wire::{Layout, Reached, Refusal, Stopped};
 
 // ---- rounds
 
-// A round's front: the entries that are made then, or no room for its entry.
-#[derive(Clone, Copy)]
-pub enum Begun {
-    At { made: usize },
-    Full,
-}
-
-pub fn begin(headed: bool, place: usize, room: usize, store: &mut [u64], made: usize) -> Begun
+pub fn begin(
+    headed: bool,
+    place: usize,
+    room: usize,
+    store: &mut [u64],
+    made: usize,
+) -> Option<usize>
     ensures { Begins room place headed store.old made result store.new }
 {
     if headed {
         if made < room {
             entry::put(store, made, 0, 0, place);
             let ready = made + 1;
-            return Begun::At { made: ready };
+            return Some(ready);
         }
-        return Begun::Full;
+        return None;
     }
-    Begun::At { made }
+    Some(made)
 }
 
 // ---- the cycle: an item, one with children, the rounds of the stretch that follows it, one round
@@ -52,39 +51,23 @@ fn read_item(
     room: usize,
     store: &mut [u64],
     made: usize,
-) -> ReadAnswer
+) -> Result<Reached, Stopped>
     requires good_table { GoodTable table.now l }
     requires node_lt_nodes { node < l.nodes }
     requires part_bound { place + length part.now < 2 ^ 64 }
     ensures { Gives (lay room (node_step (reading (head_by strict)) table.now l node (spot part.now place)) made store.old) result store.new }
 {
     if room <= made {
-        return ReadAnswer::Refused {
+        return Err(Stopped {
             why: Refusal::Room,
             place,
             count: made,
-        };
+        });
     }
     let number = table::kind_at(table, l, node);
     if !strict {
-        let int = read_item::int_bytes(number, part);
-        match int {
-            Int::Is { item } => {
-                let got = read_item::lay(item, place, store, made);
-                // Made anew, so that it does not go through memory with other answers.
-                let ReadAnswer::Done {
-                    place: behind,
-                    count,
-                } = got
-                else {
-                    return got;
-                };
-                return ReadAnswer::Done {
-                    place: behind,
-                    count,
-                };
-            }
-            Int::Other => {}
+        if let Some(item) = read_item::int_bytes(number, part) {
+            return read_item::lay(item, place, store, made);
         }
     }
     if table::is_inner(number) {
@@ -108,7 +91,7 @@ fn read_inner(
     room: usize,
     store: &mut [u64],
     made: usize,
-) -> ReadAnswer
+) -> Result<Reached, Stopped>
     requires good_table { GoodTable table.now l }
     requires node_lt_nodes { node < l.nodes }
     requires inner { Inner table.now l node number }
@@ -116,21 +99,22 @@ fn read_inner(
     requires part_bound { place + length part.now < 2 ^ 64 }
     ensures { Gives (lay room (node_step (reading (head_by strict)) table.now l node (spot part.now place)) made store.old) result store.new }
 {
-    let entered = read_item::enter(strict, table, l, node, number, part, place, store, made);
-    match entered {
-        Entered::Refused { why } => ReadAnswer::Refused {
+    match read_item::enter(strict, table, l, node, number, part, place, store, made) {
+        Err(why) => Err(Stopped {
             why,
             place,
             count: made,
-        },
-        Entered::On { to, used } => {
+        }),
+        Ok(inside) => {
+            let used = inside.used;
+            let to = inside.to;
             let after = place + used;
             let next = made + 1;
             if to.rounds == 0 {
-                return ReadAnswer::Done {
+                return Ok(Reached {
                     place: after,
                     count: next,
-                };
+                });
             }
             let way = table::flat(table, l, node, to.from, to.width);
             read_rounds(
@@ -167,7 +151,7 @@ fn read_rounds(
     room: usize,
     store: &mut [u64],
     made: usize,
-) -> ReadAnswer
+) -> Result<Reached, Stopped>
     requires good_table { GoodTable table.now l }
     requires node_le_nodes { node ≤ l.nodes }
     requires falls { Falls table.now from width node }
@@ -179,34 +163,29 @@ fn read_rounds(
     let mut sofar = made;
     let mut left = rounds;
     while 0 < left {
-        let begun = begin(headed, at, room, store, sofar);
-        let Begun::At { made: ready } = begun else {
-            return ReadAnswer::Refused {
+        let Some(ready) = begin(headed, at, room, store, sofar) else {
+            return Err(Stopped {
                 why: Refusal::Room,
                 place: at,
                 count: sofar,
-            };
+            });
         };
         let got = read_stretch(
             strict, table, l, node, from, width, rest, at, room, store, ready,
         );
-        let ReadAnswer::Done {
-            place: next,
-            count: more,
-        } = got
-        else {
+        let Ok(read) = got else {
             return got;
         };
-        let used = next - at;
+        let used = read.place - at;
         rest = &rest[used..];
-        at = next;
-        sofar = more;
+        at = read.place;
+        sofar = read.count;
         left = left - 1;
     }
-    ReadAnswer::Done {
+    Ok(Reached {
         place: at,
         count: sofar,
-    }
+    })
 }
 
 #[cycle(read_inner_read_item_read_rounds_read_stretch)]
@@ -222,7 +201,7 @@ fn read_stretch(
     room: usize,
     store: &mut [u64],
     made: usize,
-) -> ReadAnswer
+) -> Result<Reached, Stopped>
     requires good_table { GoodTable table.now l }
     requires node_le_nodes { node ≤ l.nodes }
     requires falls { Falls table.now from width node }
@@ -237,24 +216,20 @@ fn read_stretch(
     while 0 < left {
         let c = table::u16_at(table, child);
         let got = read_item(strict, table, l, c, rest, at, room, store, sofar);
-        let ReadAnswer::Done {
-            place: next,
-            count: more,
-        } = got
-        else {
+        let Ok(read) = got else {
             return got;
         };
-        let used = next - at;
+        let used = read.place - at;
         rest = &rest[used..];
-        at = next;
-        sofar = more;
+        at = read.place;
+        sofar = read.count;
         child = child + 2;
         left = left - 1;
     }
-    ReadAnswer::Done {
+    Ok(Reached {
         place: at,
         count: sofar,
-    }
+    })
 }
 
 // ---- the public calls
@@ -266,17 +241,17 @@ fn read_with(
     message: &[u8],
     room: usize,
     store: &mut [u64],
-) -> ReadAnswer
+) -> Result<Reached, Stopped>
     ensures { Gives (laid (read_by strict (check_of table.now) table.now room message.now) 0 store.old) result store.new }
 {
     let checked = table::check(table);
     match checked {
-        Checked::Bad { why, place } => ReadAnswer::Refused {
-            why,
-            place,
+        Err(bad) => Err(Stopped {
+            why: bad.why,
+            place: bad.place,
             count: 0,
-        },
-        Checked::Good { layout } => {
+        }),
+        Ok(layout) => {
             let root = table::root_at(table);
             let way = table::flat(table, layout, layout.nodes, root, 1);
             read_rounds(
@@ -300,17 +275,17 @@ fn read_with(
 
 // Reads a message by a table: where it ends or why it is refused, and the entries made, which stand in front in the store.
 // It is not `read_with`, which has several callers and so stays a call.
-pub fn read(table: &[u8], message: &[u8], store: &mut [u64]) -> ReadAnswer
+pub fn read(table: &[u8], message: &[u8], store: &mut [u64]) -> Result<Reached, Stopped>
     ensures { Reads (reads table.now message.now store.old) store.old result store.new }
 {
     let checked = table::check(table);
     match checked {
-        Checked::Bad { why, place } => ReadAnswer::Refused {
-            why,
-            place,
+        Err(bad) => Err(Stopped {
+            why: bad.why,
+            place: bad.place,
             count: 0,
-        },
-        Checked::Good { layout } => {
+        }),
+        Ok(layout) => {
             let root = table::root_at(table);
             let way = table::flat(table, layout, layout.nodes, root, 1);
             let room = entry::room(store.len());
@@ -319,11 +294,9 @@ pub fn read(table: &[u8], message: &[u8], store: &mut [u64]) -> ReadAnswer
             if !way.headed {
                 let node = table::u16_at(table, root);
                 let number = table::kind_at(table, layout, node);
-                if !table::is_inner(number) {
-                    if 0 < room {
-                        let item = leaf::take(number, message, 0);
-                        return read_item::lay(item, 0, store, 0);
-                    }
+                if 0 < room && !table::is_inner(number) {
+                    let item = leaf::take(number, message, 0);
+                    return read_item::lay(item, 0, store, 0);
                 }
             }
             read_rounds(
@@ -347,7 +320,7 @@ pub fn read(table: &[u8], message: &[u8], store: &mut [u64]) -> ReadAnswer
 
 // The same, for a message whose items are all in their shortest forms: the first that isn't is refused, after every other
 // refusal of that item.
-pub fn read_strict(table: &[u8], message: &[u8], store: &mut [u64]) -> ReadAnswer
+pub fn read_strict(table: &[u8], message: &[u8], store: &mut [u64]) -> Result<Reached, Stopped>
     ensures { Reads (reads_strict table.now message.now store.old) store.old result store.new }
 {
     let room = entry::room(store.len());
@@ -355,7 +328,7 @@ pub fn read_strict(table: &[u8], message: &[u8], store: &mut [u64]) -> ReadAnswe
 }
 
 // What a read answers with a store that has room for so many entries, where none is at hand.
-pub fn skim(table: &[u8], message: &[u8], room: usize) -> ReadAnswer
+pub fn skim(table: &[u8], message: &[u8], room: usize) -> Result<Reached, Stopped>
     ensures { result ≡ skims table.now message.now room }
 {
     let mut words: [u64; 1] = [0; 1];
@@ -375,7 +348,7 @@ pub fn skim_rounds(
     place: usize,
     room: usize,
     made: usize,
-) -> ReadAnswer
+) -> Result<Reached, Stopped>
     requires good_table { GoodTable table.now l }
     requires node_le_nodes { node ≤ l.nodes }
     requires falls { Falls table.now from width node }
@@ -411,7 +384,7 @@ pub fn skim_row(
     place: usize,
     room: usize,
     made: usize,
-) -> ReadAnswer
+) -> Result<Reached, Stopped>
     requires good_table { GoodTable table.now l }
     requires node_le_nodes { node ≤ l.nodes }
     requires falls { Falls table.now from width node }
@@ -422,15 +395,11 @@ pub fn skim_row(
 }
 
 // The unread bytes, from the same message and its answer.
-pub fn rest<'a>(message: &'a [u8], answer: ReadAnswer) -> &'a [u8]
+pub fn rest<'a>(message: &'a [u8], answer: Result<Reached, Stopped>) -> &'a [u8]
     ensures { result.now ≡ rest_of message.now answer }
 {
     match answer {
-        ReadAnswer::Done { place, count: _ } => { tail::from(message, place) }
-        ReadAnswer::Refused {
-            why: _,
-            place: _,
-            count: _,
-        } => &message[0..0],
+        Ok(reached) => tail::from(message, reached.place),
+        Err(_) => &message[0..0],
     }
 }

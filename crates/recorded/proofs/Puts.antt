@@ -1,14 +1,12 @@
 -- A part goes into memory one by one: what is left of it, put where the loop stands, gives the whole.
 -- Assumes nothing.
 use mathlib.Core.Path.{◌≡◌, refl, sym, ◌∙◌}
-use mathlib.Core.Bool.{true, false}
 use mathlib.Core.List.{List, [], ◌∷◌}
 use Prim.Native.Nat.{ℕ, suc, ◌+◌, ◌/◌, ◌≤◌, ◌<◌}
 use native.Mathlib.Numerals.{add-one}
 use native.Mathlib.Omega.{arith}
 use lib.ListN.{length, take, drop, get_or, set, drop_of_length-le, length-drop}
-use lib.Seq.{drop-cons, sets, set_out, ext_get_or}
-use Rattle.laws.proofs.Splits.{by-lt}
+use lib.Seq.{drop-cons, sets, set_out}
 use Rattle.recorded.specs.Fields.{number_of, words_from, words_of}
 
 -- nothing is put beyond the end
@@ -47,30 +45,3 @@ module _ {whole store rest : List ℕ} {i : ℕ} (h : Lays whole store rest i) w
   pub lays_all : length rest < 8 → store ≡ whole
   unfolding words_of words_from
   lays_all short = let k : length rest / 8 ≡ 0 = omega arith in rw k at h.same
-
--- two lists agree in front of i
-pub record Agree (a b : List ℕ) (i : ℕ) : Type 0 where
-  pub long : length a ≡ length b
-  pub within : i ≤ length a
-  pub same : (j : ℕ) → j < i → get_or a j 0 ≡ get_or b j 0
-
-pub agree-none : (a b : List ℕ) → length a ≡ length b → Agree a b 0
-agree-none a b e = record { long = e; within = omega arith; same = λ j lo. absurd (omega arith) }
-
-module _ {a b : List ℕ} {i : ℕ} (h : Agree a b i) where
-  pub agree-more : i < length a → get_or a i 0 ≡ get_or b i 0 → Agree a b (i + 1)
-  agree-more lo e = record {
-    long = h.long;
-    within = omega arith;
-    same = λ j before. by-lt j i (λ less. h.same j less) (λ more. let at : j ≡ i = omega arith in rw at e);
-  }
-
-  pub agree-all : length a ≤ i → a ≡ b
-  agree-all hi = ext_get_or 0 a b h.long (λ j lo. h.same j (omega arith))
-
--- what the answer of a comparison says
-pub unlike : {a b : List ℕ} → (a ≡ b → ⊥) → (false ≡ true → a ≡ b) × (a ≡ b → false ≡ true)
-unlike no_way = (λ e. let z : ◌≡◌ {A = ℕ} 0 1 = cc in absurd (omega arith), λ e. absurd (no_way e))
-
-pub alike : {a b : List ℕ} → a ≡ b → (true ≡ true → a ≡ b) × (a ≡ b → true ≡ true)
-alike e = (λ _. e, λ _. refl)

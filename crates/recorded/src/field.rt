@@ -6,24 +6,16 @@ ghost use Rattle.recorded.specs.Fields.{number_of, Ends, first_of, behind_of, pa
 // Another byte fits behind a number up to this one.
 const MOST: u64 = 72057594037927935;
 
-fn wide(byte: u8) -> u64
-    ensures { result ≡ byte }
-{
-    byte as u64
-}
-
 // The number that bytes stand for, the high ones first; as many of them as fit.
 pub fn number(bytes: &[u8]) -> u64
     ensures { result ≡ number_of bytes.now }
 {
     let mut value: u64 = 0;
-    let mut i = 0;
-    while i < bytes.len() {
+    for byte in bytes {
         if MOST < value {
             return value;
         }
-        value = value * 256 + wide(bytes[i]);
-        i += 1;
+        value = value * 256 + u64::from(*byte);
     }
     value
 }
@@ -67,11 +59,8 @@ pub fn part(bytes: &[u8], which: usize) -> &[u8]
     ensures { result.now ≡ part_of which bytes.now }
 {
     let mut rest = bytes;
-    let mut left = which;
-    while 0 < left {
-        let next = behind(rest);
-        rest = next;
-        left -= 1;
+    for _ in 0..which {
+        rest = behind(rest);
     }
     first(rest)
 }
@@ -87,14 +76,11 @@ pub fn is_whole(bytes: &[u8], fields: usize) -> bool
     ensures { result ≡ is_whole fields bytes.now }
 {
     let mut rest = bytes;
-    let mut left = fields;
-    while 0 < left {
+    for _ in 0..fields {
         if end_of(rest) == 0 {
             return false;
         }
-        let next = behind(rest);
-        rest = next;
-        left -= 1;
+        rest = behind(rest);
     }
-    rest.len() == 0
+    rest.is_empty()
 }

@@ -21,14 +21,12 @@ pub fn put(memory: &mut [u8], place: usize, part: &[u8])
     ensures { memory.new ≡ sets memory.old place part.now }
 {
     let mut at = place;
-    let mut i = 0;
-    while i < part.len() {
+    for byte in part {
         if memory.len() <= at {
             return;
         }
-        memory[at] = part[i];
+        memory[at] = *byte;
         at += 1;
-        i += 1;
     }
 }
 
@@ -52,17 +50,7 @@ pub fn put_words(store: &mut [u64], part: &[u8])
 pub fn same_words(a: &[u64], b: &[u64]) -> bool
     ensures { (result ≡ true → a.now ≡ b.now) × (a.now ≡ b.now → result ≡ true) }
 {
-    if a.len() != b.len() {
-        return false;
-    }
-    let mut i = 0;
-    while i < a.len() {
-        if a[i] != b[i] {
-            return false;
-        }
-        i += 1;
-    }
-    true
+    a == b
 }
 
 // The Adler-32 sum of bytes.
@@ -71,11 +59,9 @@ pub fn sum(bytes: &[u8]) -> u64
 {
     let mut low: u64 = 1;
     let mut high: u64 = 0;
-    let mut i = 0;
-    while i < bytes.len() {
-        low = (low + bytes[i] as u64) % 65521;
+    for byte in bytes {
+        low = (low + *byte as u64) % 65521;
         high = (high + low) % 65521;
-        i += 1;
     }
     high * 65536 + low
 }

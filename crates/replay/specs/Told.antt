@@ -1,14 +1,14 @@
 -- The three numbers that an answer of any kind begins with in a list.
 -- Assumes nothing.
-use Rattle.std.specs.Prelude.{◌≡◌, ℕ}
-use Rattle.wire.specs.declared.ReadAnswer.{ReadAnswer}
-use Rattle.wire.specs.declared.ReadAnswer.TheVariants.{Done as Read, Refused as NotRead}
-use Rattle.wire.specs.declared.AskAnswer.{AskAnswer}
-use Rattle.wire.specs.declared.AskAnswer.TheVariants.{Says, Refused as NotAsked, ShortArea}
+use Rattle.std.specs.Prelude.{◌≡◌, ℕ, Err, Ok}
+use Rattle.wire.specs.ReadAnswer.{ReadAnswer}
+use Rattle.wire.specs.ReadAnswer.{Done as Read, Refused as NotRead}
+use Rattle.wire.specs.AskAnswer.{AskAnswer}
+use Rattle.wire.specs.AskAnswer.{Says, Refused as NotAsked, ShortArea}
 use Rattle.wire.specs.Answers.{side_number, yes_number, Numbered}
-use Rattle.desk.specs.declared.CompareAnswer.{CompareAnswer}
-use Rattle.desk.specs.declared.CompareAnswer.TheVariants.{Done as Compared, Short, Refused as NotCompared, OtherRefused}
-use Rattle.replay.specs.declared.answers.Told.{Told}
+use Rattle.desk.specs.CompareAnswer.{CompareAnswer}
+use Rattle.desk.specs.CompareAnswer.{Done as Compared, Short, Refused as NotCompared, OtherRefused}
+use Rattle.replay.specs.declared.told.Told.{Told}
 
 -- document 01's number and place, and a third number
 pub record Tells (n : Numbered) (third : ℕ) (r : Told) : Type 0 where
@@ -18,8 +18,8 @@ pub record Tells (n : Numbered) (third : ℕ) (r : Told) : Type 0 where
 
 -- how many entries a reading made
 unfoldable pub made : ReadAnswer → ℕ
-made (Read p n) = n
-made (NotRead e p n) = n
+made (Ok r) = r.count
+made (Err r) = r.count
 
 -- 1 for yes, 0 for no; on a refusal 0 for the old table, 1 for the new one; 0 for a short work area
 unfoldable pub which : AskAnswer → ℕ

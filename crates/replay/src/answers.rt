@@ -1,353 +1,103 @@
 // Asks again what a record asked, and compares the whole of the answer with the record's. HOW.md has
 // the order of a record's parts.
 ghost use Rattle.std.specs.Prelude.{◌≡◌};
-ghost use Rattle.wire.specs.Answers.{read_says, write_says, ask_says, take_says};
-ghost use Rattle.desk.specs.Listed.{open_says, open_count};
-ghost use Rattle.desk.specs.Path.{find_says, first_of, second_of};
-ghost use Rattle.desk.specs.Differ.{compare_says};
-ghost use Rattle.replay.specs.Told.{Tells, made, which, pairs_or_which};
+ghost use Rattle.desk.specs.Path.{second_of};
 
-use crate::{nights, rows};
+use crate::agree::{BEFORE, BEFORE_BYTE, WORDS, bytes, tells, words, words_in};
+use crate::told;
 use accumulator::Step;
-use desk::{CompareAnswer, FindAnswer, OpenAnswer};
+use desk::{Found, NotFound, NotOpened};
 use recorded::{field, memory};
-use wire::{AskAnswer, ReadAnswer, TakeAnswer, WriteAnswer};
+use told::Told;
+use wire::{Reached, RefusedAt, Stopped, Taken};
 
-// The room for the words of a store, a value list, a path or a list of pairs, for the bytes of an output and of an accumulator.
-const WORDS: usize = 256 * entry::WORDS;
-
-pub const OUT: usize = 1024;
-
+// The bytes of an accumulator, and the words of a list of open items.
 const ROOM: usize = 2048;
 
-// What stands in lent memory before a call.
-const BEFORE: u64 = 11936128518282651045;
-
-pub const BEFORE_BYTE: u8 = 165;
-
-// The words of a list of open items.
 const LIST: usize = 1024;
 
 // How many bytes are lent behind the work area.
 const BEHIND: usize = 4096;
 
-#[derive(Clone, Copy)]
-pub enum Kind {
-    Read,
-    ReadStrict,
-    Write,
-    Append,
-    Feed,
-    Bridge,
-    Take,
-    Find,
-    Compare,
-    Batch,
-    Compact,
-    Export,
-    Import,
-}
-
-// The numbers that an answer of any kind begins with: document 01's number, and two more.
-#[derive(Clone, Copy)]
-pub struct Told {
-    pub number: u64,
-    pub second: u64,
-    pub third: u64,
-}
-
-// How many fields a record has.
-pub fn fields(kind: Kind) -> usize {
-    match kind {
-        Kind::Read => 8,
-        Kind::ReadStrict => 8,
-        Kind::Write => 8,
-        Kind::Append => 6,
-        Kind::Feed => 12,
-        Kind::Bridge => 10,
-        Kind::Take => 8,
-        Kind::Find => 7,
-        Kind::Compare => 8,
-        Kind::Batch => 11,
-        Kind::Compact => 7,
-        Kind::Export => 7,
-        Kind::Import => 7,
-    }
-}
-
-// Whether the record's first three fields tell the same.
-pub fn tells(record: &[u8], told: Told) -> bool {
-    if field::number_at(record, 0) != told.number {
-        return false;
-    }
-    if field::number_at(record, 1) != told.second {
-        return false;
-    }
-    field::number_at(record, 2) == told.third
-}
-
 // ---- reading
 
-#[tactic(auto, unfolding(wire::specs::Answers::read_says, wire::specs::Answers::done, wire::specs::Answers::numbered, crate::specs::Told::made))]
-fn read_told(answer: ReadAnswer) -> Told
-    ensures { Tells (read_says answer) (made answer) result }
-{
-    match answer {
-        ReadAnswer::Done { place, count } => Told {
-            number: 0,
-            second: place as u64,
-            third: count as u64,
-        },
-        ReadAnswer::Refused { why, place, count } => Told {
-            number: numbers::refusal(why),
-            second: place as u64,
-            third: count as u64,
-        },
-    }
-}
-
-fn read_by(strict: bool, table: &[u8], message: &[u8], store: &mut [u64]) -> ReadAnswer {
-    if strict {
-        return reader::read_strict(table, message, store);
-    }
-    reader::read(table, message, store)
-}
-
-// Whether reading into a store, strictly or not, gives what the record has; `then` is another store like it.
-fn read_over(strict: bool, record: &[u8], store: &mut [u64], then: &mut [u64]) -> bool {
-    let size = field::number_at(record, 5) as usize;
-    if store.len() < size {
-        return false;
-    }
-    let message = field::part(record, 4);
-    let answer = read_by(strict, field::part(record, 3), message, &mut store[..size]);
-    if !tells(record, read_told(answer)) {
-        return false;
-    }
-    memory::put_words(then, field::part(record, 6));
-    if !memory::same_words(store, then) {
-        return false;
-    }
-    reader::rest(message, answer) == field::part(record, 7)
-}
-
-#[tactic(auto, unfolding(desk::specs::Listed::open_says, desk::specs::Listed::open_count, wire::specs::Answers::done, wire::specs::Answers::numbered))]
-fn open_told(answer: OpenAnswer) -> Told
-    ensures { Tells (open_says answer) (open_count answer) result }
-{
-    match answer {
-        OpenAnswer::Done { place, count } => Told {
-            number: 0,
-            second: place as u64,
-            third: count as u64,
-        },
-        OpenAnswer::Refused { why, place, count } => Told {
-            number: numbers::refusal(why),
-            second: place as u64,
-            third: count as u64,
-        },
-        OpenAnswer::ShortList => Told {
-            number: numbers::SHORT_OPEN,
-            second: 0,
-            third: 0,
-        },
-    }
-}
-
-fn open_by(
-    strict: bool,
-    table: &[u8],
-    message: &[u8],
-    store: &mut [u64],
-    list: &mut [u64],
-) -> OpenAnswer {
-    if strict {
-        return open::read_strict(table, message, store, list);
-    }
-    open::read(table, message, store, list)
-}
-
-// The same by the reader with a list of open items.
-fn open_over(
-    strict: bool,
+// By a reader with a list of open items, which must come back zero.
+fn opens<F: FnOnce(&[u8], &[u8], &mut [u64], &mut [u64]) -> Result<Reached, NotOpened>>(
     record: &[u8],
-    store: &mut [u64],
-    then: &mut [u64],
-    list: &mut [u64],
-) -> bool {
-    let size = field::number_at(record, 5) as usize;
-    if store.len() < size {
-        return false;
-    }
+    read: F,
+) -> bool
+    requires { F.IsAlwaysCallable read }
+{
     let message = field::part(record, 4);
-    let answer = open_by(
-        strict,
-        field::part(record, 3),
-        message,
-        &mut store[..size],
-        list,
-    );
-    if !tells(record, open_told(answer)) {
-        return false;
-    }
-    memory::put_words(then, field::part(record, 6));
-    if !memory::same_words(store, then) {
-        return false;
-    }
-    open::rest(message, answer) == field::part(record, 7)
-}
-
-// By that reader, whose list must come back zero.
-fn open_agrees(strict: bool, record: &[u8]) -> bool {
-    let mut store = [BEFORE; WORDS];
-    let mut then = [BEFORE; WORDS];
     let mut list = [BEFORE; LIST];
-    if !open_over(strict, record, &mut store, &mut then, &mut list) {
-        return false;
-    }
-    let zeros = [0u64; LIST];
-    memory::same_words(&list, &zeros)
+    let agrees = words(record, 5, 6, |store| {
+        let answer = read(field::part(record, 3), message, store, &mut list);
+        tells(record, told::open(answer)) && open::rest(message, answer) == field::part(record, 7)
+    });
+    agrees && memory::same_words(&list, &[0; LIST])
 }
 
-// By both readers.
-fn read_agrees(strict: bool, record: &[u8]) -> bool {
-    let mut store = [BEFORE; WORDS];
-    let mut then = [BEFORE; WORDS];
-    if !read_over(strict, record, &mut store, &mut then) {
-        return false;
-    }
-    open_agrees(strict, record)
+// By a reader without one.
+fn reads<F: FnOnce(&[u8], &[u8], &mut [u64]) -> Result<Reached, Stopped>>(
+    record: &[u8],
+    read: F,
+) -> bool
+    requires { F.IsAlwaysCallable read }
+{
+    let message = field::part(record, 4);
+    words(record, 5, 6, |store| {
+        let answer = read(field::part(record, 3), message, store);
+        tells(record, told::read(answer)) && reader::rest(message, answer) == field::part(record, 7)
+    })
+}
+
+pub fn read(record: &[u8]) -> bool {
+    reads(record, reader::read) && opens(record, open::read)
+}
+
+pub fn read_strict(record: &[u8]) -> bool {
+    reads(record, reader::read_strict) && opens(record, open::read_strict)
 }
 
 // ---- writing
 
-#[tactic(auto, unfolding(wire::specs::Answers::write_says, wire::specs::Answers::done, wire::specs::Answers::numbered))]
-fn write_told(answer: WriteAnswer) -> Told
-    ensures { Tells (write_says answer) 0 result }
-{
-    match answer {
-        WriteAnswer::Done { place } => Told {
-            number: 0,
-            second: place as u64,
-            third: 0,
-        },
-        WriteAnswer::Refused { why, place } => Told {
-            number: numbers::refusal(why),
-            second: place as u64,
-            third: 0,
-        },
-    }
-}
-
-// Whether writing to an output gives what the record has; `then` is another output like it, and the
-// words are room for the value list.
-fn write_over(record: &[u8], words: &mut [u64], out: &mut [u8], then: &mut [u8]) -> bool {
-    let list = field::part(record, 4);
-    memory::put_words(words, list);
-    let count = list.len() / 8;
-    let size = field::number_at(record, 6) as usize;
-    if words.len() < count {
+pub fn write(record: &[u8]) -> bool {
+    let mut room = [0u64; WORDS];
+    let Some(values) = words_in(record, 4, &mut room) else {
         return false;
-    }
-    if out.len() < size {
-        return false;
-    }
-    let pool = field::part(record, 5);
-    let answer = writer::write(
-        field::part(record, 3),
-        &words[..count],
-        pool,
-        &mut out[..size],
-    );
-    if !tells(record, write_told(answer)) {
-        return false;
-    }
-    memory::put(then, 0, field::part(record, 7));
-    &*out == &*then
-}
-
-fn write_agrees(record: &[u8]) -> bool {
-    let mut words = [0u64; WORDS];
-    let mut out = [BEFORE_BYTE; OUT];
-    let mut then = [BEFORE_BYTE; OUT];
-    write_over(record, &mut words, &mut out, &mut then)
+    };
+    bytes(record, 6, 7, |out| {
+        let answer = writer::write(field::part(record, 3), values, field::part(record, 5), out);
+        tells(record, told::write(answer))
+    })
 }
 
 // ---- the append question
-
-#[tactic(auto, unfolding(wire::specs::Answers::ask_says, wire::specs::Answers::done, wire::specs::Answers::numbered, crate::specs::Told::which))]
-fn ask_told(answer: AskAnswer) -> Told
-    ensures { Tells (ask_says answer) (which answer) result }
-{
-    match answer {
-        AskAnswer::Says { yes } => Told {
-            number: 0,
-            second: 0,
-            third: numbers::yes(yes),
-        },
-        AskAnswer::Refused { side, why, place } => Told {
-            number: numbers::refusal(why),
-            second: place as u64,
-            third: numbers::side(side),
-        },
-        AskAnswer::ShortArea => Told {
-            number: numbers::SHORT_AREA,
-            second: 0,
-            third: 0,
-        },
-    }
-}
 
 // The append question's work area with some bytes behind it, as they stand before a call.
 fn work_area() -> [u8; append::AREA + BEHIND] {
     [BEFORE_BYTE; append::AREA + BEHIND]
 }
 
-// Whether all bytes are the same.
 fn is_all(part: &[u8], byte: u8) -> bool {
-    let mut others = 0u8;
-    for own in part {
-        others = others | (*own ^ byte);
-    }
-    others == 0
+    part.iter().all(|own| *own == byte)
 }
 
-// How many bytes in front of an area of such a length must be handed back as zeros.
-fn zeros_of(len: usize) -> usize {
-    if len < append::AREA {
-        return 0;
-    }
-    append::AREA
-}
-
-// Whether so many bytes in front are zero, and all others as they were.
-fn is_handed_back(area: &[u8], zeros: usize) -> bool {
-    if area.len() < zeros {
-        return false;
-    }
-    is_all(&area[..zeros], 0) && is_all(&area[zeros..], BEFORE_BYTE)
-}
-
-// Asks in a work area of the record's length, the front of this one.
+// Asks in the front of an area, as long as the record says. An area that is long enough is handed back as zeros, and all other bytes
+// as they were.
 fn ask_within(record: &[u8], area: &mut [u8]) -> bool {
     let len = field::number_at(record, 5) as usize;
-    if area.len() < len {
+    let Some(lent) = area.get_mut(..len) else {
         return false;
-    }
-    let answer = append::appends(
-        field::part(record, 3),
-        field::part(record, 4),
-        &mut area[..len],
-    );
-    if !tells(record, ask_told(answer)) {
-        return false;
-    }
-    is_handed_back(area, zeros_of(len))
+    };
+    let answer = append::appends(field::part(record, 3), field::part(record, 4), lent);
+    let zeros = if len < append::AREA { 0 } else { append::AREA };
+    let (front, behind) = area.split_at(zeros.min(area.len()));
+    tells(record, told::ask(answer)) && is_all(front, 0) && is_all(behind, BEFORE_BYTE)
 }
 
-fn ask_agrees(record: &[u8]) -> bool {
-    let mut area = work_area();
-    ask_within(record, &mut area)
+pub fn ask(record: &[u8]) -> bool {
+    ask_within(record, &mut work_area())
 }
 
 // ---- the accumulator
@@ -358,270 +108,102 @@ fn holds(record: &[u8], array: &[u8], message: &[u8]) -> bool {
     memory::put(&mut then, 0, field::part(record, 4));
     let place = field::number_at(record, 8) as usize;
     memory::put(&mut then, place, field::part(record, 9));
-    if array != then.as_slice() {
-        return false;
-    }
     let mut decoded = [0u8; ROOM];
     memory::put(&mut decoded, 0, field::part(record, 7));
-    message == decoded.as_slice()
+    array == then.as_slice() && message == decoded.as_slice()
 }
 
 // Whether a step's numbers and what it hands back of the chunk are the record's.
-fn step_agrees(record: &[u8], step: Step) -> bool {
-    let chunk = field::part(record, 5);
-    let answer = step.answer;
-    let used = step.used;
+fn steps(record: &[u8], step: Step) -> bool {
     let told = Told {
-        number: numbers::feed(answer),
+        number: numbers::feed(step.answer),
         second: step.idx as u64,
         third: step.len as u64,
     };
-    if !tells(record, told) {
-        return false;
-    }
-    tail::from(chunk, used) == field::part(record, 6)
+    let rest = tail::from(field::part(record, 5), step.used);
+    tells(record, told) && rest == field::part(record, 6)
+}
+
+// Whether a feed of the record's chunk agrees, with an array, the idx and room for a message.
+fn feeds<F: FnOnce(&mut [u8], usize, &[u8], &mut [u8]) -> bool>(record: &[u8], agrees: F) -> bool
+    requires { F.IsAlwaysCallable agrees }
+{
+    let mut array = [0u8; ROOM];
+    let mut message = [BEFORE_BYTE; ROOM];
+    memory::put(&mut array, 0, field::part(record, 4));
+    let idx = field::number_at(record, 3) as usize;
+    agrees(&mut array, idx, field::part(record, 5), &mut message) && holds(record, &array, &message)
 }
 
 // By default, with the mark before and after it.
-fn feed_agrees(record: &[u8]) -> bool {
-    let mut array = [0u8; ROOM];
-    let mut message = [BEFORE_BYTE; ROOM];
-    memory::put(&mut array, 0, field::part(record, 4));
-    let idx = field::number_at(record, 3) as usize;
+pub fn feed(record: &[u8]) -> bool {
     let waiting = field::number_at(record, 10) == 1;
-    let chunk = field::part(record, 5);
-    let got = accumulator::feed_lent(&mut array, idx, waiting, chunk, &mut message);
-    if !step_agrees(record, got.step) {
-        return false;
-    }
     let waits = field::number_at(record, 11) == 1;
-    if got.waiting != waits {
-        return false;
-    }
-    holds(record, &array, &message)
+    feeds(record, |array, idx, chunk, message| {
+        let got = accumulator::feed_lent(array, idx, waiting, chunk, message);
+        steps(record, got.step) && got.waiting == waits
+    })
 }
 
-fn bridge_agrees(record: &[u8]) -> bool {
-    let mut array = [0u8; ROOM];
-    let mut message = [BEFORE_BYTE; ROOM];
-    memory::put(&mut array, 0, field::part(record, 4));
-    let idx = field::number_at(record, 3) as usize;
-    let chunk = field::part(record, 5);
-    let step = accumulator::feed_bridge_lent(&mut array, idx, chunk, &mut message);
-    if !step_agrees(record, step) {
-        return false;
-    }
-    holds(record, &array, &message)
+pub fn bridge(record: &[u8]) -> bool {
+    feeds(record, |array, idx, chunk, message| {
+        let step = accumulator::feed_bridge_lent(array, idx, chunk, message);
+        steps(record, step)
+    })
 }
 
 // ---- taking an item
 
-#[tactic(auto, unfolding(wire::specs::Answers::take_says, wire::specs::Answers::done, wire::specs::Answers::numbered))]
-fn take_told(answer: TakeAnswer, behind: usize) -> Told
-    ensures { Tells (take_says answer) behind result }
-{
-    match answer {
-        TakeAnswer::Done {
-            first: _,
-            second: _,
-            at: _,
-            place,
-        } => Told {
-            number: 0,
-            second: place as u64,
-            third: behind as u64,
-        },
-        TakeAnswer::Refused { why, place } => Told {
-            number: numbers::refusal(why),
-            second: place as u64,
-            third: behind as u64,
-        },
-    }
-}
-
 // Whether the answer has the entry that the record has, or none where it has none.
-fn is_entry(record: &[u8], answer: TakeAnswer) -> bool {
+fn is_entry(record: &[u8], answer: Result<Taken, RefusedAt>) -> bool {
     let then = field::part(record, 6);
-    match answer {
-        TakeAnswer::Done {
-            first,
-            second,
-            at,
-            place: _,
-        } => {
-            if then.len() != 8 * entry::WORDS {
-                return false;
-            }
-            let mut made = [0u64; entry::WORDS];
-            entry::put(&mut made, 0, first, second, at);
-            let mut words = [0u64; entry::WORDS];
-            memory::put_words(&mut words, then);
-            memory::same_words(&made, &words)
-        }
-        TakeAnswer::Refused { why: _, place: _ } => then.len() == 0,
-    }
+    let Ok(taken) = answer else {
+        return then.is_empty();
+    };
+    let mut made = [0u64; entry::WORDS];
+    entry::put(&mut made, 0, taken.first, taken.second, taken.at);
+    let mut words = [0u64; entry::WORDS];
+    memory::put_words(&mut words, then);
+    then.len() == 8 * entry::WORDS && memory::same_words(&made, &words)
 }
 
-fn take_agrees(record: &[u8]) -> bool {
+pub fn take(record: &[u8]) -> bool {
     let message = field::part(record, 4);
     let place = field::number_at(record, 5) as usize;
     let answer = deserializer::take_at(field::number_at(record, 3), message, place);
     let behind = deserializer::place_after(place, answer);
-    if !tells(record, take_told(answer, behind)) {
-        return false;
-    }
-    if !is_entry(record, answer) {
-        return false;
-    }
-    tail::from(message, behind) == field::part(record, 7)
+    tells(record, told::take(answer, behind))
+        && is_entry(record, answer)
+        && tail::from(message, behind) == field::part(record, 7)
 }
 
 // ---- finding an item
 
-#[tactic(auto, unfolding(desk::specs::Path::find_says, desk::specs::Path::first_of, wire::specs::Answers::done, wire::specs::Answers::numbered))]
-fn find_told(answer: FindAnswer) -> Told
-    ensures { Tells (find_says answer) (first_of answer) result }
-{
-    match answer {
-        FindAnswer::Found {
-            first,
-            second: _,
-            place,
-        } => Told {
-            number: 0,
-            second: place as u64,
-            third: first,
-        },
-        FindAnswer::NoItem => Told {
-            number: numbers::NO_ITEM,
-            second: 0,
-            third: 0,
-        },
-        FindAnswer::Absent { place } => Told {
-            number: numbers::ABSENT,
-            second: place as u64,
-            third: 0,
-        },
-        FindAnswer::Refused { why, place } => Told {
-            number: numbers::refusal(why),
-            second: place as u64,
-            third: 0,
-        },
-    }
-}
-
 #[tactic(auto, unfolding(desk::specs::Path::second_of))]
-fn second_of(answer: FindAnswer) -> u64
+fn second_of(answer: Result<Found, NotFound>) -> u64
     ensures { result ≡ second_of answer }
 {
     match answer {
-        FindAnswer::Found {
-            first: _,
-            second,
-            place: _,
-        } => second,
-        FindAnswer::NoItem => 0,
-        FindAnswer::Absent { place: _ } => 0,
-        FindAnswer::Refused { why: _, place: _ } => 0,
+        Ok(found) => found.second,
+        Err(_) => 0,
     }
 }
 
-// Whether the item at the record's path is the record's; the words are room for the path.
-fn find_by(record: &[u8], words: &mut [u64]) -> bool {
-    let path = field::part(record, 4);
-    memory::put_words(words, path);
-    let count = path.len() / 8;
-    if words.len() < count {
+pub fn find(record: &[u8]) -> bool {
+    let mut room = [0u64; WORDS];
+    let Some(path) = words_in(record, 4, &mut room) else {
         return false;
-    }
-    let answer = find::find(
-        field::part(record, 3),
-        &words[..count],
-        field::part(record, 5),
-    );
-    if !tells(record, find_told(answer)) {
-        return false;
-    }
-    field::number_at(record, 6) == second_of(answer)
-}
-
-fn find_agrees(record: &[u8]) -> bool {
-    let mut words = [0u64; WORDS];
-    find_by(record, &mut words)
+    };
+    let answer = find::find(field::part(record, 3), path, field::part(record, 5));
+    tells(record, told::find(answer)) && field::number_at(record, 6) == second_of(answer)
 }
 
 // ---- two messages side by side
 
-#[tactic(auto, unfolding(desk::specs::Differ::compare_says, crate::specs::Told::pairs_or_which, wire::specs::Answers::done, wire::specs::Answers::numbered))]
-fn compare_told(answer: CompareAnswer) -> Told
-    ensures { Tells (compare_says answer) (pairs_or_which answer) result }
-{
-    match answer {
-        CompareAnswer::Done { count } => Told {
-            number: 0,
-            second: 0,
-            third: count as u64,
-        },
-        CompareAnswer::Short => Told {
-            number: numbers::SHORT_LIST,
-            second: 0,
-            third: 0,
-        },
-        CompareAnswer::Refused { why, place } => Told {
-            number: numbers::refusal(why),
-            second: place as u64,
-            third: 0,
-        },
-        CompareAnswer::OtherRefused { why, place } => Told {
-            number: numbers::refusal(why),
-            second: place as u64,
-            third: 1,
-        },
-    }
-}
-
-// Whether comparing into a list gives what the record has; `then` is another list like it.
-fn compare_over(record: &[u8], list: &mut [u64], then: &mut [u64]) -> bool {
-    let size = field::number_at(record, 6) as usize;
-    if list.len() < size {
-        return false;
-    }
-    let answer = compare::compare(
-        field::part(record, 3),
-        field::part(record, 4),
-        field::part(record, 5),
-        &mut list[..size],
-    );
-    if !tells(record, compare_told(answer)) {
-        return false;
-    }
-    memory::put_words(then, field::part(record, 7));
-    memory::same_words(list, then)
-}
-
-fn compare_agrees(record: &[u8]) -> bool {
-    let mut list = [BEFORE; WORDS];
-    let mut then = [BEFORE; WORDS];
-    compare_over(record, &mut list, &mut then)
-}
-
-// ---- any record
-
-// Whether the answer to what a record asks is the record's.
-pub fn agrees(kind: Kind, record: &[u8]) -> bool {
-    match kind {
-        Kind::Read => read_agrees(false, record),
-        Kind::ReadStrict => read_agrees(true, record),
-        Kind::Write => write_agrees(record),
-        Kind::Append => ask_agrees(record),
-        Kind::Feed => feed_agrees(record),
-        Kind::Bridge => bridge_agrees(record),
-        Kind::Take => take_agrees(record),
-        Kind::Find => find_agrees(record),
-        Kind::Compare => compare_agrees(record),
-        Kind::Batch => nights::agrees(record),
-        Kind::Compact => nights::compact_agrees(record),
-        Kind::Export => rows::agrees(false, record),
-        Kind::Import => rows::agrees(true, record),
-    }
+pub fn compare(record: &[u8]) -> bool {
+    words(record, 6, 7, |list| {
+        let table = field::part(record, 3);
+        let answer = compare::compare(table, field::part(record, 4), field::part(record, 5), list);
+        tells(record, told::compare(answer))
+    })
 }

@@ -2,15 +2,15 @@
 // and writes a line for each kind of request. HOW.md says how the lists were made.
 #![tactic(auto)]
 
+mod agree;
 mod answers;
 mod nights;
 mod rows;
+mod told;
 
 ghost use Rattle.std.specs.Prelude.{◌+◌, ◌^◌, ◌<◌, ◌≤◌, IfOk};
 
-use answers::Kind;
 use recorded::{field, memory};
-use say::{say, say_with};
 use std::io;
 use std::rt::Files;
 
@@ -21,14 +21,22 @@ struct Tally {
     agree: u64,
 }
 
-// Whether a record agrees; says so if it doesn't.
-fn try_record(rt: &impl Print, kind: Kind, record: &[u8], which: u64) -> io::Result<bool> {
-    if !field::is_whole(record, answers::fields(kind)) {
-        say_with(rt, b"record # is not one of this kind\n", which)?;
+// Whether a record has so many fields and agrees; says so if it doesn't.
+fn try_record<F: Fn(&[u8]) -> bool>(
+    rt: &impl Print,
+    fields: usize,
+    agrees: &F,
+    record: &[u8],
+    which: u64,
+) -> io::Result<bool>
+    requires { F.IsAlwaysCallable agrees.now }
+{
+    if !field::is_whole(record, fields) {
+        println!(rt; "record {which} is not one of this kind")?;
         return Ok(false);
     }
-    if !answers::agrees(kind, record) {
-        say_with(rt, b"record # differs\n", which)?;
+    if !agrees(record) {
+        println!(rt; "record {which} differs")?;
         return Ok(false);
     }
     Ok(true)
@@ -43,7 +51,13 @@ fn counted(agree: u64, good: bool) -> u64
 }
 
 // Replays each record of a list.
-fn try_list(rt: &impl Print, kind: Kind, list: &[u8]) -> io::Result<Tally>
+fn try_list<F: Fn(&[u8]) -> bool>(
+    rt: &impl Print,
+    fields: usize,
+    agrees: &F,
+    list: &[u8],
+) -> io::Result<Tally>
+    requires { F.IsAlwaysCallable agrees.now }
     ensures { IfOk result (λ tally. tally.agree ≤ tally.records) }
 {
     let mut rest = list;
@@ -52,55 +66,57 @@ fn try_list(rt: &impl Print, kind: Kind, list: &[u8]) -> io::Result<Tally>
     while 0 < rest.len() {
         let end = field::end_of(rest);
         if end < 2 {
-            say(rt, b"the list ends inside a record\n")?;
+            println!(rt; "the list ends inside a record")?;
             return Ok(Tally { records, agree });
         }
         records += 1;
-        let good = try_record(rt, kind, &rest[2..end], records)?;
+        let good = try_record(rt, fields, agrees, &rest[2..end], records)?;
         agree = counted(agree, good);
         rest = &rest[end..];
     }
     Ok(Tally { records, agree })
 }
 
-// Replays the list of a kind, and says how many agree, of how many bytes it is, and their sum.
-fn replay_list(rt: &impl Print, kind: Kind, name: &[u8], list: &[u8]) -> io::Result<()> {
-    let tally = try_list(rt, kind, list)?;
-    say(rt, name)?;
-    say_with(rt, b": # of ", tally.agree)?;
-    say_with(rt, b"# agree; ", tally.records)?;
-    say_with(rt, b"# bytes, sum ", list.len() as u64)?;
-    let sum = memory::sum(list);
-    println!(rt; "{sum:08x}")
-}
-
-fn replay<R: Files + Print + Eprint>(rt: &R, kind: Kind, path: &[u8]) -> io::Result<()> {
-    let mut file = match host::open(rt, path) {
+// Replays the list of a kind, whose records have so many fields, and says how many agree, of how many bytes it is, and their sum.
+fn replay<R: Files + Print + Eprint, F: Fn(&[u8]) -> bool>(
+    rt: &R,
+    name: &str,
+    fields: usize,
+    agrees: F,
+) -> io::Result<()>
+    requires { F.IsAlwaysCallable agrees }
+{
+    let mut file = match host::open(rt, name.as_bytes()) {
         Ok(file) => file,
-        Err(why) => return host::fail(rt, path, why),
+        Err(why) => return host::fail(rt, name.as_bytes(), why),
     };
     let mut room = memory::room();
     let end = host::read_full(&mut file, &mut room)?;
     if end == room.len() {
-        say(rt, path)?;
-        return say(rt, b": larger than the room for a list\n");
+        return println!(rt; "{name}: larger than the room for a list");
     }
-    replay_list(rt, kind, path, &room[..end])
+    let list = &room[..end];
+    let Tally { records, agree } = try_list(rt, fields, &agrees, list)?;
+    let sum = memory::sum(list);
+    println!(rt;
+        "{name}: {agree} of {records} agree; {} bytes, sum {sum:08x}",
+        list.len()
+    )
 }
 
 fn main(rt: HostRuntime) -> io::Result<()> {
-    replay(&rt, Kind::Read, b"reading")?;
-    replay(&rt, Kind::ReadStrict, b"strict")?;
-    replay(&rt, Kind::Write, b"writing")?;
-    replay(&rt, Kind::Append, b"appending")?;
-    replay(&rt, Kind::Feed, b"waiting")?;
-    replay(&rt, Kind::Bridge, b"feeding")?;
-    replay(&rt, Kind::Bridge, b"frames")?;
-    replay(&rt, Kind::Take, b"taking")?;
-    replay(&rt, Kind::Find, b"finding")?;
-    replay(&rt, Kind::Compare, b"comparing")?;
-    replay(&rt, Kind::Batch, b"batching")?;
-    replay(&rt, Kind::Compact, b"compacting")?;
-    replay(&rt, Kind::Export, b"exporting")?;
-    replay(&rt, Kind::Import, b"importing")
+    replay(&rt, "reading", 8, answers::read)?;
+    replay(&rt, "strict", 8, answers::read_strict)?;
+    replay(&rt, "writing", 8, answers::write)?;
+    replay(&rt, "appending", 6, answers::ask)?;
+    replay(&rt, "waiting", 12, answers::feed)?;
+    replay(&rt, "feeding", 10, answers::bridge)?;
+    replay(&rt, "frames", 10, answers::bridge)?;
+    replay(&rt, "taking", 8, answers::take)?;
+    replay(&rt, "finding", 7, answers::find)?;
+    replay(&rt, "comparing", 8, answers::compare)?;
+    replay(&rt, "batching", 11, nights::ask)?;
+    replay(&rt, "compacting", 7, nights::compact)?;
+    replay(&rt, "exporting", 7, rows::export)?;
+    replay(&rt, "importing", 7, rows::import)
 }

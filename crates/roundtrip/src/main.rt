@@ -4,9 +4,8 @@
 
 use recorded::field::part;
 use recorded::memory::put_words;
-use say::{say, say_bytes, say_entries, say_why, say_with};
+use say::{Entries, Hex, Why};
 use std::io;
-use wire::{ReadAnswer, WriteAnswer};
 
 // So many value lists are to be written, of which the longest has so many words; a store has room for some more.
 const LISTS: usize = 15;
@@ -18,53 +17,39 @@ const STORE: usize = 45 * entry::WORDS;
 // The room for a message of every kind, with four bytes behind it.
 const ROOM: usize = 135;
 
-fn say_line(rt: &impl Print, bytes: &[u8]) -> io::Result<()> {
-    say_bytes(rt, bytes)?;
-    say(rt, b"\n")
-}
-
 // ---- there and back
 
 // Writes what was read, of which the message is the pool: the same bytes come out.
 fn write_again(rt: &impl Print, table: &[u8], words: &[u64], message: &[u8]) -> io::Result<()> {
     let mut out = [0xeeu8; ROOM];
-    match writer::write(table, words, message, &mut out) {
-        WriteAnswer::Refused { why: _, place: _ } => say(rt, b"not written again\n"),
-        WriteAnswer::Done { place } => {
-            if out.as_slice() == message {
-                return say_with(rt, b"written again, # bytes: the same\n", place as u64);
-            }
-            say_with(rt, b"written again, # bytes: others\n", place as u64)
-        }
-    }
+    let Ok(place) = writer::write(table, words, message, &mut out) else {
+        return println!(rt; "not written again");
+    };
+    let same = out.as_slice() == message;
+    println!(rt;
+        "written again, {place} bytes: {}",
+        if same { "the same" } else { "others" }
+    )
 }
 
 fn read_back(rt: &impl Print, table: &[u8], message: &[u8]) -> io::Result<()> {
     let mut store = [7u64; STORE];
     let answer = reader::read(table, message, &mut store);
-    match answer {
-        ReadAnswer::Refused {
-            why: _,
-            place: _,
-            count: _,
-        } => say(rt, b"not read\n"),
-        ReadAnswer::Done { place, count } => {
-            say_with(rt, b"read # bytes:", place as u64)?;
-            say_entries(rt, &store, count)?;
-            say(rt, b"\nrest:")?;
-            say_line(rt, reader::rest(message, answer))?;
-            write_again(rt, table, entry::front(&store, count), message)
-        }
-    }
+    let Ok(reached) = answer else {
+        return println!(rt; "not read");
+    };
+    let words = entry::front(&store, reached.count);
+    println!(rt; "read {} bytes:{}", reached.place, Entries(words))?;
+    println!(rt; "rest:{}", Hex(reader::rest(message, answer)))?;
+    write_again(rt, table, words, message)
 }
 
 fn there_and_back(rt: &impl Print, table: &[u8], words: &[u64], pool: &[u8]) -> io::Result<()> {
     let mut message = [0xeeu8; ROOM];
     match writer::write(table, words, pool, &mut message) {
-        WriteAnswer::Refused { why, place } => say_why(rt, why, b", at #: not written\n", place),
-        WriteAnswer::Done { place } => {
-            say_with(rt, b"written # bytes, then as before:", place as u64)?;
-            say_line(rt, &message)?;
+        Err(refused) => println!(rt; "{}, at {}: not written", Why(refused.why), refused.place),
+        Ok(place) => {
+            println!(rt; "written {place} bytes, then as before:{}", Hex(&message))?;
             read_back(rt, table, &message)
         }
     }
@@ -76,14 +61,10 @@ fn there_and_back(rt: &impl Print, table: &[u8], words: &[u64], pool: &[u8]) -> 
 fn write_short(rt: &impl Print, table: &[u8], words: &[u64], pool: &[u8]) -> io::Result<()> {
     let mut out = [0xeeu8; 5];
     match writer::write(table, words, pool, &mut out) {
-        WriteAnswer::Done { place } => say_with(rt, b": done at #", place as u64)?,
-        WriteAnswer::Refused { why, place } => {
-            say(rt, b": refused ")?;
-            say_why(rt, why, b", at #", place)?;
-        }
+        Ok(place) => print!(rt; ": done at {place}")?,
+        Err(refused) => print!(rt; ": refused {}, at {}", Why(refused.why), refused.place)?,
     }
-    say(rt, b"; out")?;
-    say_line(rt, &out)
+    println!(rt; "; out{}", Hex(&out))
 }
 
 // ---- the list
@@ -93,13 +74,11 @@ fn write_record(rt: &impl Print, which: usize, record: &[u8]) -> io::Result<()> 
     let mut room = [0u64; LONGEST];
     let list = part(record, 2);
     put_words(&mut room, list);
-    let count = list.len() / 8;
-    if count <= room.len() {
-        let words = &room[..count];
+    if let Some(words) = room.get(..list.len() / 8) {
         if which == 0 {
             return there_and_back(rt, part(record, 1), words, part(record, 3));
         }
-        say(rt, part(record, 0))?;
+        rt.write_all(part(record, 0))?;
         write_short(rt, part(record, 1), words, part(record, 3))?;
     }
     Ok(())

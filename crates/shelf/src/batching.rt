@@ -1,60 +1,26 @@
 // Night batches: written from messages that stand end to end, checked whole, asked for the last message of a store and product,
 // and compacted.
-use crate::{decimal, files, shown};
-use desk::{BatchChecked, BatchFound, BatchWritten, Fault, Key};
-use say::{front, say, say_bytes, say_with};
+use crate::files::{large_room, largest_room, with};
+use crate::{decimal, files, shown, usage};
+use decimal::NoNumber;
+use desk::{Fault, Key};
+use say::{Count, Hex, front};
 use std::io;
 use std::rt::{Env, Runtime};
-
-// A command's second word.
-#[derive(Clone, Copy)]
-enum Asked {
-    Write,
-    Check,
-    Last,
-    Compact,
-    Unknown,
-}
-
-fn wanted(rt: &impl Env) -> Asked {
-    let mut word = host::buffer();
-    let n = host::word(rt, 2, &mut word);
-    match &word[..n] {
-        b"write" => Asked::Write,
-        b"check" => Asked::Check,
-        b"last" => Asked::Last,
-        b"compact" => Asked::Compact,
-        _ => Asked::Unknown,
-    }
-}
-
-// Whether a batch command may have so many words.
-pub fn fits(rt: &impl Env, count: usize) -> bool {
-    match wanted(rt) {
-        Asked::Write => count == 8,
-        Asked::Check => count == 5,
-        Asked::Last => count == 7,
-        Asked::Compact => count == 6,
-        Asked::Unknown => false,
-    }
-}
+use wire::RefusedAt;
 
 fn say_fault(rt: &impl Print, fault: Fault) -> io::Result<()> {
     match fault {
-        Fault::Wire { why, place } => shown::say_refusal(rt, why, place, b"batch", files::LARGEST),
-        Fault::Fields => say(
-            rt,
-            b"refused: 17, the store and product fields don't fit the table\n",
+        Fault::Wire { why, place } => {
+            shown::say_refusal(rt, RefusedAt { why, place }, "batch", files::LARGEST)
+        }
+        Fault::Fields => println!(rt;
+            "refused: 17, the store and product fields don't fit the table"
         ),
-        Fault::Batch => say(rt, b"refused: 18, the batch is bad\n"),
-        Fault::Missing => say(
-            rt,
-            b"refused: 19, the batch has no such store and product\n",
-        ),
+        Fault::Batch => println!(rt; "refused: 18, the batch is bad"),
+        Fault::Missing => println!(rt; "refused: 19, the batch has no such store and product"),
     }
 }
-
-// ---- writing
 
 fn write(
     rt: &impl Runtime,
@@ -63,117 +29,85 @@ fn write(
     store: u64,
     product: u64,
 ) -> io::Result<()> {
-    let mut out = files::largest_room();
+    let mut out = largest_room();
     match batch::write(table, messages, store as usize, product as usize, &mut out) {
-        BatchWritten::Done { place } => files::save(rt, 7, front(&out, place)),
-        BatchWritten::Refused { why } => say_fault(rt, why),
+        Ok(place) => files::save(rt, 7, front(&out, place)),
+        Err(fault) => say_fault(rt, fault),
     }
 }
 
-// With the table, the messages that the command's word 4 names, and the fields of words 5 and 6. No root has a field at a place
-// that doesn't fit 64 bits, nor at one that such a number stays at.
+// Writes a batch of the messages that the command's word 4 names, with the fields of words 5 and 6. No root has a field at a
+// place that doesn't fit 64 bits.
 fn write_messages(rt: &impl Runtime, table: &[u8]) -> io::Result<()> {
-    let store = decimal::word(rt, 5);
-    let product = decimal::word(rt, 6);
-    if !store.good || !product.good {
-        return say(rt, b"a field is a number in decimal\n");
-    }
-    let mut room = files::large_room();
-    let loaded = files::load(rt, 4, &mut room)?;
-    let whole = loaded.whole;
-    let len = loaded.len;
-    if whole {
-        write(rt, table, &room[..len], store.value, product.value)?;
-    }
-    Ok(())
-}
-
-// ---- checking and searching
-
-fn judge(rt: &impl Print, table: &[u8], batch: &[u8]) -> io::Result<()> {
-    match batch::check(table, batch) {
-        BatchChecked::Good => say(
-            rt,
-            b"good batch: messages end to end, and a row for each, in order\n",
-        ),
-        BatchChecked::Bad { why } => say_fault(rt, why),
-    }
-}
-
-fn show(
-    rt: &impl Print,
-    table: &[u8],
-    batch: &[u8],
-    found: BatchFound,
-    from: usize,
-    len: usize,
-) -> io::Result<()> {
-    let message = batch::part(batch, found);
-    say_with(rt, b"at byte #, ", from as u64)?;
-    say_with(rt, b"# byte$:", len as u64)?;
-    say_bytes(rt, message)?;
-    say(rt, b"\n")?;
-    shown::read(rt, table, message, false)
-}
-
-fn last(rt: &(impl Env + Print), table: &[u8], batch: &[u8]) -> io::Result<()> {
-    let store = decimal::word(rt, 5);
-    let product = decimal::word(rt, 6);
-    if !store.good || !product.good {
-        return say(rt, b"a store and a product are numbers in decimal\n");
-    }
-    if !product.fits {
-        return say(rt, b"a product number is at most 18446744073709551615\n");
-    }
-    let key = Key {
-        store: store.value,
-        product: product.value,
+    let (Some(store), Some(product)) = (decimal::at_most(rt, 5), decimal::at_most(rt, 6)) else {
+        return println!(rt; "a field is a number in decimal");
     };
+    with(rt, 4, &mut large_room(), |messages| {
+        write(rt, table, messages, store, product)
+    })
+}
+
+fn check(rt: &impl Print, table: &[u8], batch: &[u8]) -> io::Result<()> {
+    match batch::check(table, batch) {
+        Ok(()) => println!(rt; "good batch: messages end to end, and a row for each, in order"),
+        Err(fault) => say_fault(rt, fault),
+    }
+}
+
+fn show_last(rt: &impl Print, table: &[u8], batch: &[u8], key: Key) -> io::Result<()> {
     let found = batch::last(table, batch, key);
     match found {
-        BatchFound::Part { from, len } => show(rt, table, batch, found, from, len),
-        BatchFound::Refused { why } => say_fault(rt, why),
+        Ok(part) => {
+            let message = batch::part(batch, found);
+            let count = Count(part.len as u64, "byte");
+            println!(rt; "at byte {}, {count}:{}", part.from, Hex(message))?;
+            shown::read(rt, table, message, false)
+        }
+        Err(fault) => say_fault(rt, fault),
     }
 }
 
-// ---- compaction
+// Shows the last message of the store and product in the command's words 5 and 6. A store has 32 bits.
+fn last(rt: &(impl Env + Print), table: &[u8], batch: &[u8]) -> io::Result<()> {
+    match (decimal::at_most(rt, 5), decimal::word(rt, 6)) {
+        (Some(store), Ok(product)) => show_last(rt, table, batch, Key { store, product }),
+        (Some(_), Err(NoNumber::TooLarge)) => {
+            println!(rt; "a product number is at most 18446744073709551615")
+        }
+        _ => println!(rt; "a store and a product are numbers in decimal"),
+    }
+}
 
 fn compact(rt: &impl Runtime, table: &[u8], batch: &[u8]) -> io::Result<()> {
-    let mut out = files::largest_room();
+    let mut out = largest_room();
     match batch::compact(table, batch, &mut out) {
-        BatchWritten::Done { place } => files::save(rt, 5, front(&out, place)),
-        BatchWritten::Refused { why } => say_fault(rt, why),
+        Ok(place) => files::save(rt, 5, front(&out, place)),
+        Err(fault) => say_fault(rt, fault),
     }
 }
 
-// With the table, the batch that the command's word 4 names.
-fn run_on_batch(rt: &impl Runtime, asked: Asked, table: &[u8]) -> io::Result<()> {
-    let mut room = files::largest_room();
-    let loaded = files::load(rt, 4, &mut room)?;
-    let whole = loaded.whole;
-    let len = loaded.len;
-    if whole {
-        match asked {
-            Asked::Last => last(rt, table, &room[..len]),
-            Asked::Compact => compact(rt, table, &room[..len]),
-            _ => judge(rt, table, &room[..len]),
-        }?;
-    }
-    Ok(())
+// Runs on the table and the batch that the command's words 3 and 4 name.
+fn with_batch<R: Runtime, F: FnOnce(&[u8], &[u8]) -> io::Result<()>>(
+    rt: &R,
+    run: F,
+) -> io::Result<()>
+    requires { F.IsAlwaysCallable run }
+{
+    with(rt, 3, &mut large_room(), |table| {
+        with(rt, 4, &mut largest_room(), |batch| run(table, batch))
+    })
 }
 
-// A batch command, with the table that its word 3 names.
-pub fn run(rt: &impl Runtime) -> io::Result<()> {
-    let mut room = files::large_room();
-    let loaded = files::load(rt, 3, &mut room)?;
-    let whole = loaded.whole;
-    let len = loaded.len;
-    if whole {
-        let asked = wanted(rt);
-        match asked {
-            Asked::Write => write_messages(rt, &room[..len]),
-            _ => run_on_batch(rt, asked, &room[..len]),
-        }?;
+// shelf batch VERB .., of n words.
+pub fn run(rt: &impl Runtime, n: usize) -> io::Result<()> {
+    let mut room = host::buffer();
+    match host::word(rt, 2, &mut room) {
+        b"write" if n == 8 => with(rt, 3, &mut large_room(), |table| {
+            write_messages(rt, table)
+        }),
+        b"check" if n == 5 => with_batch(rt, |table, batch| check(rt, table, batch)),
+        b"last" if n == 7 => with_batch(rt, |table, batch| last(rt, table, batch)),
+        b"compact" if n == 6 => with_batch(rt, |table, batch| compact(rt, table, batch)),
+        _ => usage::say(rt),
     }
-    Ok(())
 }

@@ -1,11 +1,12 @@
 // Two messages side by side: where they differ.
-use crate::files;
-use desk::CompareAnswer;
+use crate::files::{large_room, with, words_room};
+use desk::NotCompared;
 use listing::changes;
-use say::say;
+use listing::entries::show_changes;
+use listing::line::Beside;
 use std::io;
 use std::rt::Runtime;
-use wire::ReadAnswer;
+use wire::{Reached, RefusedAt, Stopped};
 
 // The list has room for 16,384 pairs: no two messages of so many entries have more.
 const PAIRS: usize = 2 * 16384;
@@ -14,19 +15,16 @@ fn pairs_room() -> [u64; PAIRS] {
     [0; PAIRS]
 }
 
-fn made_by(read: ReadAnswer) -> usize {
-    match read {
-        ReadAnswer::Done { place: _, count } => count,
-        ReadAnswer::Refused {
-            why: _,
-            place: _,
-            count,
-        } => count,
+// How many entries a reading made.
+fn made_by(answer: Result<Reached, Stopped>) -> usize {
+    match answer {
+        Ok(reached) => reached.count,
+        Err(stopped) => stopped.count,
     }
 }
 
 // The items at so many pairs of places, in words.
-fn show_changes(
+fn say_items(
     rt: &impl Print,
     table: &[u8],
     one: &[u8],
@@ -35,46 +33,41 @@ fn show_changes(
     count: usize,
 ) -> io::Result<()> {
     if count == 0 {
-        return say(rt, b"no item differs\n");
+        return println!(rt; "no item differs");
     }
-    let mut store = files::words_room();
-    let mut others = files::words_room();
-    let mut lined = files::words_room();
+    let mut store = words_room();
+    let mut others = words_room();
+    let mut lined = words_room();
     let ones = made_by(reader::read(table, one, &mut store));
     let theirs = made_by(reader::read(table, other, &mut others));
     let made = entry::front(&store, ones);
-    let beside = entry::front(&others, theirs);
-    changes::line_up(list, count, made, beside, other, &mut lined);
-    listing::entries::show_changes(rt, table, one, made, &lined, other)
+    let made_there = entry::front(&others, theirs);
+    changes::line_up(list, count, made, made_there, other, &mut lined);
+    let beside = Beside {
+        lined: &lined,
+        message: other,
+    };
+    show_changes(rt, table, one, made, beside)
 }
 
 fn compare(rt: &impl Print, table: &[u8], one: &[u8], other: &[u8], aloud: bool) -> io::Result<()> {
     let mut list = pairs_room();
     match compare::compare(table, one, other, &mut list) {
-        CompareAnswer::Done { count } => {
-            if aloud {
-                return show_changes(rt, table, one, other, &list, count);
-            }
-            changes::say_pairs(rt, &list, count)
+        Ok(count) if aloud => say_items(rt, table, one, other, &list, count),
+        Ok(count) => changes::say_pairs(rt, &list, count),
+        Err(NotCompared::Short) => println!(rt; "refused: 15, the list is too short for the pairs"),
+        Err(NotCompared::Refused { why, place }) => {
+            changes::say_refused(rt, "the first message", RefusedAt { why, place })
         }
-        CompareAnswer::Short => say(rt, b"refused: 15, the list is too short for the pairs\n"),
-        CompareAnswer::Refused { why, place } => {
-            changes::say_refused(rt, b"the first message", why, place)
-        }
-        CompareAnswer::OtherRefused { why, place } => {
-            changes::say_refused(rt, b"the second message", why, place)
+        Err(NotCompared::OtherRefused { why, place }) => {
+            changes::say_refused(rt, "the second message", RefusedAt { why, place })
         }
     }
 }
 
 // Compares a message with the one that the command's word 4 names: the pairs of places, or, aloud, the items in words.
 pub fn compare_with(rt: &impl Runtime, table: &[u8], one: &[u8], aloud: bool) -> io::Result<()> {
-    let mut room = files::large_room();
-    let loaded = files::load(rt, 4, &mut room)?;
-    let whole = loaded.whole;
-    let len = loaded.len;
-    if whole {
-        compare(rt, table, one, &room[..len], aloud)?;
-    }
-    Ok(())
+    with(rt, 4, &mut large_room(), |other| {
+        compare(rt, table, one, other, aloud)
+    })
 }

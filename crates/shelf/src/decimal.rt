@@ -1,50 +1,33 @@
 // Numbers in decimal, as a command's words spell them.
 use std::rt::Env;
 
-// What a word spells: a number, if it is digits alone. One that leaves 64 bits doesn't fit, and stays as large as it got.
+// Why a word spells no number of 64 bits: it isn't digits alone, or the number is larger.
 #[derive(Clone, Copy)]
-pub struct Number {
-    pub good: bool,
-    pub fits: bool,
-    pub value: u64,
+pub enum NoNumber {
+    NotDecimal,
+    TooLarge,
 }
 
-fn nothing() -> Number {
-    Number {
-        good: false,
-        fits: false,
-        value: 0,
+fn decimal(word: &[u8]) -> Result<u64, NoNumber> {
+    if !word.iter().all(|sign| sign.is_ascii_digit()) {
+        return Err(NoNumber::NotDecimal);
     }
-}
-
-pub fn decimal(word: &[u8]) -> Number {
-    let mut value = 0u64;
-    let mut fits = true;
-    for byte in word {
-        let sign = *byte;
-        if sign < b'0' {
-            return nothing();
-        }
-        if b'9' < sign {
-            return nothing();
-        }
-        let digit = (sign - b'0') as u64;
-        if value <= (18446744073709551615 - digit) / 10 {
-            value = 10 * value + digit;
-        } else {
-            fits = false;
-        }
-    }
-    Number {
-        good: 0 < word.len(),
-        fits,
-        value,
+    match str::from_utf8(word) {
+        Ok("") | Err(_) => Err(NoNumber::NotDecimal),
+        Ok(digits) => digits.parse::<u64>().map_err(|_| NoNumber::TooLarge),
     }
 }
 
 // The number that the command's word i spells.
-pub fn word(rt: &impl Env, i: usize) -> Number {
-    let mut word = host::buffer();
-    let n = host::word(rt, i, &mut word);
-    decimal(&word[..n])
+pub fn word(rt: &impl Env, i: usize) -> Result<u64, NoNumber> {
+    decimal(host::word(rt, i, &mut host::buffer()))
+}
+
+// The same, or the largest in place of one that is too large, where no such large number is to be found.
+pub fn at_most(rt: &impl Env, i: usize) -> Option<u64> {
+    match word(rt, i) {
+        Ok(number) => Some(number),
+        Err(NoNumber::TooLarge) => Some(u64::MAX),
+        Err(NoNumber::NotDecimal) => None,
+    }
 }

@@ -1,11 +1,10 @@
 // A file named by a word of the command, whole or not at all.
-ghost use Rattle.std.specs.Prelude.{◌≡◌, ◌*◌, ◌≤◌, length, IfOk, IfErr};
+ghost use Rattle.std.specs.Prelude.{◌≡◌, ◌*◌, length};
 ghost use Rattle.wire.specs.Answers.{words_per};
 
-use say::{say, say_with};
 use std::io;
 use std::io::Read;
-use std::rt::Runtime;
+use std::rt::{Files, Runtime};
 
 // The words of 16,384 entries, for a store or a value list.
 const WORDS: usize = 16384 * entry::WORDS;
@@ -32,78 +31,63 @@ pub fn largest_room() -> [u8; LARGEST] {
     [0; LARGEST]
 }
 
-// Whether a file is there whole, and how many bytes it has.
-#[derive(Clone, Copy)]
-pub struct Loaded {
-    pub whole: bool,
-    pub len: usize,
-}
-
-// Whether a file's end is reached; says what else there is.
-fn is_ended<R: Runtime>(rt: &R, file: &mut R::File, path: &[u8], room: usize) -> io::Result<bool> {
+// A file's bytes, in front of the room; none if there are more than fit.
+fn read_whole<'a, R: Files>(
+    rt: &R,
+    path: &[u8],
+    room: &'a mut [u8],
+) -> io::Result<Option<&'a [u8]>> {
+    let mut file = host::open(rt, path)?;
+    let len = host::read_full(&mut file, room)?;
     let mut next = [0u8; 1];
-    match file.read(&mut next) {
-        Ok(0) => Ok(true),
-        Ok(_) => {
-            say(rt, path)?;
-            say_with(rt, b": larger than the room of # bytes\n", room as u64)?;
-            Ok(false)
+    if file.read(&mut next)? != 0 {
+        return Ok(None);
+    }
+    Ok(Some(&room[..len]))
+}
+
+// Runs on the file that the command's word i names, read into a room. Where that fails, it says why, and nothing is run.
+pub fn with<R: Runtime, F: FnOnce(&[u8]) -> io::Result<()>>(
+    rt: &R,
+    i: usize,
+    room: &mut [u8],
+    run: F,
+) -> io::Result<()>
+    requires { F.IsAlwaysCallable run }
+{
+    let mut buffer = host::buffer();
+    let path = host::word(rt, i, &mut buffer);
+    let size = room.len();
+    match read_whole(rt, path, room) {
+        Ok(Some(bytes)) => run(bytes),
+        Ok(None) => {
+            rt.write_all(path)?;
+            println!(rt; ": larger than the room of {size} bytes")
         }
-        Err(why) => {
-            host::fail(rt, path, why)?;
-            Ok(false)
-        }
+        Err(why) => host::fail(rt, path, why),
     }
 }
 
-// What there is of a file that can't be read.
-const NOTHING: Loaded = Loaded {
-    whole: false,
-    len: 0,
-};
-
-fn load_from(rt: &impl Runtime, path: &[u8], room: &mut [u8]) -> io::Result<Loaded>
-    ensures ok { IfOk result (λ loaded. loaded.len ≤ length room.new) }
-    ensures err { IfErr result (λ why. length room.new ≡ length room.old) }
+// Runs on the files that the command's words 2 and 3 name: a table and a message, or two tables.
+pub fn with_two<R: Runtime, F: FnOnce(&[u8], &[u8]) -> io::Result<()>>(
+    rt: &R,
+    run: F,
+) -> io::Result<()>
+    requires { F.IsAlwaysCallable run }
 {
-    let mut file = match host::open(rt, path) {
-        Ok(file) => file,
-        Err(why) => {
-            host::fail(rt, path, why)?;
-            return Ok(NOTHING);
-        }
-    };
-    match host::read_full(&mut file, room) {
-        Ok(len) => {
-            let whole = is_ended(rt, &mut file, path, room.len())?;
-            Ok(Loaded { whole, len })
-        }
-        Err(why) => {
-            host::fail(rt, path, why)?;
-            Ok(NOTHING)
-        }
-    }
+    with(rt, 2, &mut large_room(), |one| {
+        with(rt, 3, &mut large_room(), |two| run(one, two))
+    })
 }
 
-// The file that the command's word i names, in front of the room.
-pub fn load(rt: &impl Runtime, i: usize, room: &mut [u8]) -> io::Result<Loaded>
-    ensures ok { IfOk result (λ loaded. loaded.len ≤ length room.new) }
-    ensures err { IfErr result (λ why. length room.new ≡ length room.old) }
-{
-    let mut path = host::buffer();
-    let n = host::word(rt, i, &mut path);
-    load_from(rt, &path[..n], room)
-}
-
-// Puts bytes into the file that the command's word i names; says whether that is done.
+// Puts bytes into the file that the command's word i names, and says whether that is done.
 pub fn save(rt: &impl Runtime, i: usize, bytes: &[u8]) -> io::Result<()> {
-    let mut path = host::buffer();
-    let n = host::word(rt, i, &mut path);
-    let name = &path[..n];
-    if let Err(why) = host::write(rt, name, bytes) {
-        return host::fail(rt, name, why);
+    let mut buffer = host::buffer();
+    let path = host::word(rt, i, &mut buffer);
+    if let Err(why) = host::write(rt, path, bytes) {
+        return host::fail(rt, path, why);
     }
-    say_with(rt, b"wrote # bytes to ", bytes.len() as u64)?;
-    say(rt, name)?;
-    say(rt, b"\n")
+    print!(rt; "wrote {} bytes to ", bytes.len())?;
+    rt.write_all(path)?;
+    print!(rt; "\n")
 }

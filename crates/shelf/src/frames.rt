@@ -2,30 +2,28 @@
 ghost use Rattle.std.specs.Prelude.{◌≡◌, ◌+◌, ◌^◌, ◌≤◌, ◌<◌, length, IfOk, IfErr};
 ghost use Rattle.wire.specs.Frames.{room};
 
+use crate::files::{LARGE, large_room};
 use crate::{files, shown};
 use accumulator::{Accumulator, Fed};
-use say::{before, front, say, say_bytes, say_with};
+use say::{Count, Hex, front};
 use std::io;
 use std::io::Read;
 use std::rt::Runtime;
-use wire::{FeedAnswer, WriteAnswer};
+use wire::FeedAnswer;
 
-// A frame's message, which ends before a place of the stream.
-fn say_frame(rt: &impl Print, fed: Fed, place: usize) -> io::Result<()> {
-    let message = fed.message;
-    say_with(rt, b"frame up to byte #:", place as u64)?;
-    say_bytes(rt, front(&message, fed.len))?;
-    say(rt, b"\n")
-}
-
+// What a feed of the stream up to a place answers.
 fn say_fed(rt: &impl Print, fed: Fed, place: usize) -> io::Result<()> {
-    let answer = fed.answer;
-    match answer {
+    match fed.answer {
         FeedAnswer::Consumed => Ok(()),
-        FeedAnswer::OverFull => say_with(rt, b"refused: 21, over-full, at byte #\n", place as u64),
-        FeedAnswer::BadFrame => say_with(rt, b"refused: 22, bad frame, at byte #\n", place as u64),
-        FeedAnswer::Frame => say_frame(rt, fed, place),
-        FeedAnswer::BadState => say_with(rt, b"refused: 24, bad state, at byte #\n", place as u64),
+        FeedAnswer::OverFull => println!(rt; "refused: 21, over-full, at byte {place}"),
+        FeedAnswer::BadFrame => println!(rt; "refused: 22, bad frame, at byte {place}"),
+        FeedAnswer::BadState => println!(rt; "refused: 24, bad state, at byte {place}"),
+        FeedAnswer::Frame => {
+            println!(rt;
+                "frame up to byte {place}:{}",
+                Hex(front(&fed.message, fed.len))
+            )
+        }
     }
 }
 
@@ -34,14 +32,9 @@ fn say_dropped(rt: &impl Print, waiting: bool, chunk: &[u8], earlier: usize) -> 
     requires { earlier + length chunk.now < 2 ^ 64 }
 {
     if waiting {
-        let n = before(chunk, 0);
-        if n < chunk.len() {
-            let all = earlier + (n + 1);
-            say_with(
-                rt,
-                b"# byte$ dropped, up to the end of an over-full frame\n",
-                all as u64,
-            )?;
+        if let Some(n) = chunk.iter().position(|byte| *byte == 0) {
+            let bytes = Count((earlier + n + 1) as u64, "byte");
+            println!(rt; "{bytes} dropped, up to the end of an over-full frame")?;
         }
     }
     Ok(())
@@ -80,8 +73,7 @@ fn feed_all(rt: &impl Print, stream: Stream, chunk: &[u8]) -> io::Result<Stream>
         let fed = accumulator::feed(state, left);
         let rest = accumulator::rest(left, fed);
         place = place + (left.len() - rest.len());
-        let answer = fed.answer;
-        over = behind_over(answer, place, over);
+        over = behind_over(fed.answer, place, over);
         say_fed(rt, fed, place)?;
         left = rest;
         state = fed.state;
@@ -108,38 +100,28 @@ fn read_some<S: Read>(
             0
         }
     };
-    let places = usize::MAX - at;
-    if places < n { Ok(0) } else { Ok(n) }
+    Ok(if usize::MAX - at < n { 0 } else { n })
 }
 
 // What is left unfinished at the end.
 fn say_end(rt: &impl Print, stream: Stream) -> io::Result<()>
     requires { stream.over ≤ stream.place }
 {
-    let state = stream.state;
-    if state.waiting {
-        let dropped = stream.place - stream.over;
-        return say_with(
-            rt,
-            b"# byte$ dropped, and the end of an over-full frame didn't come\n",
-            dropped as u64,
-        );
+    if stream.state.waiting {
+        let bytes = Count((stream.place - stream.over) as u64, "byte");
+        println!(rt; "{bytes} dropped, and the end of an over-full frame didn't come")
+    } else if 0 < stream.state.idx {
+        let bytes = Count(stream.state.idx as u64, "byte");
+        println!(rt; "{bytes} of an unfinished frame at the end")
+    } else {
+        Ok(())
     }
-    if 0 < state.idx {
-        say_with(
-            rt,
-            b"# byte$ of an unfinished frame at the end\n",
-            state.idx as u64,
-        )?;
-    }
-    Ok(())
 }
 
 fn show<S: Read>(rt: &(impl Print + Eprint), from: &mut S, path: &[u8]) -> io::Result<()> {
     let mut chunk = host::buffer();
-    let state = Accumulator::new();
     let mut stream = Stream {
-        state,
+        state: Accumulator::new(),
         place: 0,
         over: 0,
     };
@@ -151,39 +133,24 @@ fn show<S: Read>(rt: &(impl Print + Eprint), from: &mut S, path: &[u8]) -> io::R
     say_end(rt, stream)
 }
 
-// shelf frames [FILE]
-pub fn run(rt: &impl Runtime) -> io::Result<()> {
-    if host::word_count(rt) == 2 {
+// shelf frames [FILE], of so many words.
+pub fn run(rt: &impl Runtime, words: usize) -> io::Result<()> {
+    if words == 2 {
         return show(rt, &mut rt.reader(), b"standard input");
     }
-    let mut path = host::buffer();
-    let n = host::word(rt, 2, &mut path);
-    let name = &path[..n];
-    match host::open(rt, name) {
-        Ok(mut file) => show(rt, &mut file, name),
-        Err(why) => host::fail(rt, name, why),
+    let mut buffer = host::buffer();
+    let path = host::word(rt, 2, &mut buffer);
+    match host::open(rt, path) {
+        Ok(mut file) => show(rt, &mut file, path),
+        Err(why) => host::fail(rt, path, why),
     }
 }
 
-// Puts a message's frame into a room of its own, and that into the file OUT only if it fits there.
-fn save_frame(rt: &impl Runtime, message: &[u8]) -> io::Result<()> {
-    let mut out = files::large_room();
+// Puts a message's frame into a room of its own, and that into the file of the command's word 3 only if it fits there.
+pub fn save(rt: &impl Runtime, message: &[u8]) -> io::Result<()> {
+    let mut out = large_room();
     match framer::frame(message, &mut out) {
-        WriteAnswer::Refused { why, place } => {
-            shown::say_refusal(rt, why, place, b"frame", files::LARGE)
-        }
-        WriteAnswer::Done { place } => files::save(rt, 3, front(&out, place)),
+        Ok(place) => files::save(rt, 3, front(&out, place)),
+        Err(refused) => shown::say_refusal(rt, refused, "frame", LARGE),
     }
-}
-
-// shelf frame MESSAGE OUT
-pub fn send(rt: &impl Runtime) -> io::Result<()> {
-    let mut room = files::large_room();
-    let loaded = files::load(rt, 2, &mut room)?;
-    let whole = loaded.whole;
-    let len = loaded.len;
-    if whole {
-        save_frame(rt, &room[..len])?;
-    }
-    Ok(())
 }

@@ -1,81 +1,42 @@
 // A value list, written as a message.
-ghost use Rattle.std.specs.Prelude.{◌≤◌, length};
-
 use crate::files;
-use say::{front, say, say_why, say_with};
+use crate::files::{large_room, with, words_room};
+use say::{Count, Why, front};
 use std::io;
 use std::rt::Runtime;
-use wire::{Item, WriteAnswer};
 
-// The little-endian word that bytes begin with.
-fn first_word(bytes: &[u8]) -> u64
-    requires { 8 ≤ length bytes.now }
-{
-    let got = fixint::take64(bytes, false, false);
-    let Item::Took { own } = got else {
-        return 0;
-    };
-    own.first
-}
-
-// Puts the whole words of a file in front.
-fn put_words(bytes: &[u8], words: &mut [u64]) {
-    let mut rest = bytes;
-    for word in words.iter_mut() {
-        if rest.len() < 8 {
-            return;
-        }
-        *word = first_word(rest);
-        rest = &rest[8..];
-    }
-}
-
-// Writes the values into a room of its own, and that into the file OUT only if all is well.
+// Writes the values into a room of its own, and that into the file of the command's word 5 only if all is well.
 fn write(rt: &impl Runtime, table: &[u8], words: &[u64], pool: &[u8]) -> io::Result<()> {
-    let mut out = files::large_room();
+    let mut out = large_room();
     match writer::write(table, words, pool, &mut out) {
-        WriteAnswer::Refused { why, place } => {
-            say(rt, b"refused: ")?;
-            say_why(rt, why, b", at place #; nothing is written\n", place)
+        Ok(place) => files::save(rt, 5, front(&out, place)),
+        Err(refused) => {
+            println!(rt;
+                "refused: {}, at place {}; nothing is written",
+                Why(refused.why),
+                refused.place
+            )
         }
-        WriteAnswer::Done { place } => files::save(rt, 5, front(&out, place)),
     }
 }
 
-fn write_front(
-    rt: &impl Runtime,
-    table: &[u8],
-    words: &[u64],
-    count: usize,
-    pool: &[u8],
-) -> io::Result<()> {
-    if count <= words.len() {
-        write(rt, table, &words[..count], pool)?;
+// Puts the whole words of a file, with the low byte first, in front of the room.
+fn words_of<'a>(bytes: &[u8], room: &'a mut [u64]) -> &'a [u64] {
+    let (words, _) = bytes.as_chunks::<8>();
+    for (word, bytes) in room.iter_mut().zip(words) {
+        *word = u64::from_le_bytes(*bytes);
     }
-    Ok(())
-}
-
-fn write_words(rt: &impl Runtime, table: &[u8], values: &[u8], pool: &[u8]) -> io::Result<()> {
-    if values.len() % 8 != 0 {
-        return say_with(
-            rt,
-            b"the values are no whole words of eight bytes: # byte$\n",
-            values.len() as u64,
-        );
-    }
-    let mut words = files::words_room();
-    put_words(values, &mut words);
-    write_front(rt, table, &words, values.len() / 8, pool)
+    let count = words.len().min(room.len());
+    &room[..count]
 }
 
 // Writes the values of a file, with the pool that the command's word 4 names.
 pub fn write_values(rt: &impl Runtime, table: &[u8], values: &[u8]) -> io::Result<()> {
-    let mut room = files::large_room();
-    let loaded = files::load(rt, 4, &mut room)?;
-    let whole = loaded.whole;
-    let len = loaded.len;
-    if whole {
-        write_words(rt, table, values, &room[..len])?;
-    }
-    Ok(())
+    with(rt, 4, &mut large_room(), |pool| {
+        if values.len() % 8 != 0 {
+            let bytes = Count(values.len() as u64, "byte");
+            return println!(rt; "the values are no whole words of eight bytes: {bytes}");
+        }
+        write(rt, table, words_of(values, &mut words_room()), pool)
+    })
 }

@@ -48,7 +48,7 @@ fn after_words(s: &[u8], from: usize) -> usize
         if !w3 {
             return i + 24;
         }
-        i = i + 32;
+        i += 32;
     }
     i
 }
@@ -60,11 +60,10 @@ fn after_eights(s: &[u8], from: usize) -> usize
 {
     let mut i = from;
     while 8 <= s.len() - i {
-        let single = eight_single(s, i);
-        if !single {
+        if !eight_single(s, i) {
             return i;
         }
-        i = i + 8;
+        i += 8;
     }
     i
 }
@@ -92,7 +91,7 @@ fn after_ascii(s: &[u8], from: usize) -> usize
         if 0x80 <= b3 {
             return i + 3;
         }
-        i = i + 4;
+        i += 4;
     }
     i
 }
@@ -122,8 +121,7 @@ fn after_seven(s: &[u8], from: usize) -> usize
     requires { from + 8 ≤ length s.now }
     ensures { Same s.now from result }
 {
-    let four = four_single(s, from);
-    if four {
+    if four_single(s, from) {
         return after_three(s, from + 4);
     }
     after_three(s, from)
@@ -136,11 +134,10 @@ pub fn after_run(s: &[u8], from: usize) -> usize
 {
     let mut i = from;
     while 8 <= s.len() - i {
-        let single = eight_single(s, i);
-        if !single {
+        if !eight_single(s, i) {
             return after_seven(s, i);
         }
-        i = i + 8;
+        i += 8;
     }
     after_ascii(s, i)
 }
@@ -154,11 +151,8 @@ fn after_long(s: &[u8]) -> usize
     let len = s.len();
     let most = after_words(s, 0);
     let i = after_eights(s, most);
-    if len - i <= 8 {
-        let last = eight_single(s, len - 8);
-        if last {
-            return len;
-        }
+    if len - i <= 8 && eight_single(s, len - 8) {
+        return len;
     }
     after_ascii(s, i)
 }
@@ -169,12 +163,8 @@ fn after_short(s: &[u8]) -> usize
     ensures { Same s.now 0 result }
 {
     let len = s.len();
-    let first = four_single(s, 0);
-    if first {
-        let last = four_single(s, len - 4);
-        if last {
-            return len;
-        }
+    if four_single(s, 0) && four_single(s, len - 4) {
+        return len;
     }
     after_ascii(s, 0)
 }
@@ -183,15 +173,12 @@ fn after_short(s: &[u8]) -> usize
 fn after_few(s: &[u8]) -> usize
     ensures { Same s.now 0 result }
 {
-    let mut i: usize = 0;
-    while i < s.len() {
-        let b = s[i];
-        if 0x80 <= b {
+    for (i, b) in s.iter().enumerate() {
+        if 0x80 <= *b {
             return i;
         }
-        i = i + 1;
     }
-    i
+    s.len()
 }
 
 // A place behind single bytes only: the end, where there are no others.

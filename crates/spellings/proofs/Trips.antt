@@ -1,5 +1,6 @@
 -- There and back, as the public calls answer.
 -- Assumes nothing.
+use Rattle.std.specs.Prelude.{Err}
 use mathlib.Core.Path.{◌≡◌, refl, sym, ap, ◌∙◌}
 use mathlib.Core.Path as paths
 use mathlib.Core.Bool.{Bool, true, false}
@@ -10,8 +11,8 @@ use native.Mathlib.Omega.{arith}
 use lib.Dec.{leb}
 use lib.ListN.{length}
 use Rattle.wire.specs.declared.Layout.{Layout}
-use Rattle.wire.specs.declared.Checked.{Checked}
-use Rattle.wire.specs.declared.Checked.TheVariants.{Good, Bad}
+use Rattle.wire.specs.Checked.{Checked}
+use Rattle.wire.specs.Checked.{Good, Bad}
 use Rattle.wire.specs.Tests.{pick}
 use Rattle.wire.specs.Shape.{Shape}
 use Rattle.wire.specs.Table.{check, shape_of}
@@ -20,7 +21,7 @@ use Rattle.wire.specs.Values.{Entry, SameValues, Value, number, whole, values}
 use Rattle.wire.specs.Reading.{Spot, front, Outcome, reached, refused, Run, read, fit}
 use Rattle.laws.proofs.Splits.{by-test, not-both}
 use Rattle.laws.proofs.Runs.{within-reached, fit-reached}
-use Rattle.desk.specs.declared.CsvAnswer.TheVariants.{NoRow}
+use Rattle.desk.specs.CsvAnswer.{NoRow}
 use Rattle.desk.specs.Csv.{may_all, row, Column, columns_of, styles_of, Output, bytes, refusal, within, field_values, export_run, export_read, export_of, export_by, csv_export, message_of, Imported, row_of, stops_at, Imports, bad_table, unfit, fits}
 use Rattle.desk.specs.Path.{most_entries}
 use Rattle.spellings.specs.Accept.{Parsed, took, stopped, parse, import_parsed, import_of, import_by, csv_import}
@@ -81,7 +82,7 @@ export-of-import table input message rest room room' few e = go (check table) e
   where
     go : (c : Checked) → import_by c table input room ≡ bytes message → export_by c table (message ++ rest) room' ≡ within room' input
     go (Good l) e = export-back (shape_of table l) input message rest room' few (imported (shape_of table l) (columns_of (shape_of table l)) input message room refl e)
-    go (Bad w i) e = not-both (ap is_bytes e) refl
+    go (Err r) e = not-both (ap is_bytes e) refl
 
 -- ---- import of an export
 
@@ -135,7 +136,7 @@ unfolding csv_import csv_export import_by export_by
 import-of-export table message row' room ok e = go (check table) refl e
   where
     go : (c : Checked) → check table ≡ c → export_by c table message room ≡ bytes row' → SameAgain table message row'
-    go (Bad w i) c e = not-both (ap is_bytes e) refl
+    go (Err r) c e = not-both (ap is_bytes e) refl
     go (Good l) c e =
         let x = was-exported (shape_of table l) (columns_of (shape_of table l)) message row' room ok refl e in
         record {
@@ -174,7 +175,7 @@ module _ (table input : List ℕ) (room : ℕ) where
   given-said : (c : Checked) → check table ≡ c → Imports table input room (import_by c table input room)
   unfolding import_by
   given-said (Good l) e = given-columns l e (columns_of (shape_of table l)) refl
-  given-said (Bad why i) e = bad_table why i e
+  given-said (Err r) e = bad_table r.why r.place e
 
   -- what is said is given
   row-given : (l : Layout) (cs : List Column) → columns_of (shape_of table l) ≡ some cs → (o : Output) → Imported cs input room o

@@ -1,14 +1,14 @@
 -- Rows read byte by byte: where each field's spelling ends, its value, or where the input stops being a row.
 -- Assumes nothing.
-use Rattle.std.specs.Prelude.{Bool, true, false, List, [], ◌∷◌, ◌++◌, ℕ, zero, suc, ◌+◌, ◌-◌, ◌*◌, ◌^◌, ltb, leb, eqb}
+use Rattle.std.specs.Prelude.{Bool, true, false, List, [], ◌∷◌, ◌++◌, ℕ, zero, suc, ◌+◌, ◌-◌, ◌*◌, ◌^◌, ltb, leb, eqb, Err}
 use Rattle.std.proofs.Math.Option.{Option, none, some}
 use Rattle.wire.specs.Tests.{pick, given, both}
 use Rattle.wire.specs.Values.{Value, number, content}
 use Rattle.wire.specs.Text.{width_of, low_of, high_of, first_char}
 use Rattle.wire.specs.Table.{check, shape_of}
-use Rattle.wire.specs.declared.Checked.{Checked}
-use Rattle.wire.specs.declared.Checked.TheVariants.{Good, Bad}
-use Rattle.desk.specs.declared.CsvAnswer.TheVariants.{Refused, Unfit, NoRow}
+use Rattle.wire.specs.Checked.{Checked}
+use Rattle.wire.specs.Checked.{Good, Bad}
+use Rattle.desk.specs.CsvAnswer.{Refused, Unfit, NoRow}
 use Rattle.desk.specs.Csv.{quote, comma, minus, Style, numeral, one_char, any_text, hex, Column, columns_of, styles_of, Output, refusal, within, message_of}
 
 -- goes byte by byte: the next state, unless no spelling goes on so; and the value of a state in which a spelling is whole
@@ -205,7 +205,7 @@ import_of (some cs) s room = import_parsed cs room (parse (styles_of cs) s)
 
 unfoldable pub import_by : Checked → List ℕ → List ℕ → ℕ → Output
 import_by (Good l) table s room = import_of (columns_of (shape_of table l)) s room
-import_by (Bad e i) table s room = refusal (Refused e i)
+import_by (Err r) table s room = refusal (Refused r.why r.place)
 
 unfoldable pub csv_import : (table input : List ℕ) (room : ℕ) → Output
 csv_import table s room = import_by (check table) table s room

@@ -3,7 +3,7 @@
 use Rattle.std.specs.Prelude.{◌↔◌, ◌≡◌, true, List, [], ◌∷◌, ◌++◌, ℕ, ◌<◌, ◌^◌, length}
 use Rattle.std.proofs.Math.Option.{some}
 use Rattle.wire.specs.declared.Layout.{Layout}
-use Rattle.wire.specs.declared.Checked.TheVariants.{Good}
+use Rattle.wire.specs.Checked.{Good}
 use Rattle.wire.specs.Shape.{Shape}
 use Rattle.wire.specs.Table.{check, shape_of}
 use Rattle.wire.specs.Values.{Entry, Value, number, whole, values, SameValues}

@@ -18,8 +18,8 @@ use Rattle.batches.specs.Starts.{Starts, in-front, RowOf}
 use Rattle.batches.proofs.Standing.{falls-bad, wrong-bad, unread-bad, few-bad, all-good}
 use Rattle.row.specs.Ranks.{row_count, rows_in, Loaded}
 use Rattle.row.proofs.Bytes.{rows_get, length-rows_in}
-use Rattle.starts.specs.declared.Marked.{Marked}
-use Rattle.starts.specs.declared.Marked.TheVariants.{Upto, Stopped}
+use Rattle.starts.specs.Marked.{Marked}
+use Rattle.starts.specs.Marked.{Upto, Stopped}
 use Rattle.starts.specs.Window.{Window, Marks, marks, unread, Placed, Stands, placed, wrong, AllStand, all_placed, one-wrong, Judges, good, bad}
 use Rattle.starts.proofs.Windows.{start-few}
 

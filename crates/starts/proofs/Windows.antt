@@ -22,13 +22,13 @@ use Rattle.batches.proofs.Onward.{next-some}
 use Rattle.batches.proofs.Starting.{start-order, start-inside, start-before}
 use Rattle.bits.specs.Marks.{marked, marking}
 use Rattle.bits.proofs.Bits.{marking-only, marking-it, marking-keeps, length-marking, cleared}
-use Rattle.messages.specs.declared.NextMessage.{NextMessage}
-use Rattle.messages.specs.declared.NextMessage.TheVariants.{Message as Is, Stops}
+use Rattle.messages.specs.NextMessage.{NextMessage}
+use Rattle.messages.specs.NextMessage.{Message as Is, Stops}
 use Rattle.messages.specs.Fields.{HasKey}
 use Rattle.messages.specs.Steps.{next_answer}
 use Rattle.messages.proofs.SoFar.{Told, told, stopped}
 use Rattle.starts.specs.Window.{Start, Window, Marks, marks, unread, Stands, placed, wrong}
-use Rattle.starts.specs.declared.Marked.TheVariants.{Upto, Stopped}
+use Rattle.starts.specs.Marked.{Upto, Stopped}
 
 pub of-not-false : (t : Bool) → not t ≡ false → t ≡ true
 of-not-false true e = refl

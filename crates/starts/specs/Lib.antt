@@ -1,2 +1,3 @@
 -- What the contracts of the whole check cite.
 pub mod Window
+pub mod Marked

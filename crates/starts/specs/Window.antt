@@ -13,8 +13,8 @@ use Rattle.bits.specs.Marks.{marked}
 use Rattle.row.specs.Ranks.{rows_in}
 use Rattle.messages.specs.declared.Fields.{Fields}
 use Rattle.messages.specs.Fields.{keys_of}
-use Rattle.starts.specs.declared.Marked.{Marked}
-use Rattle.starts.specs.declared.Marked.TheVariants.{Upto, Stopped}
+use Rattle.starts.specs.Marked.{Marked}
+use Rattle.starts.specs.Marked.{Upto, Stopped}
 
 -- a message starts there
 pub record Start (k : Keyed) (s : List ℕ) (o : ℕ) : Type 0 where

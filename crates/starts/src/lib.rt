@@ -10,20 +10,20 @@ ghost use Rattle.messages.specs.Fields.{keys_of, KeyedBy};
 ghost use Rattle.starts.specs.Window.{Window, Marks, Stands, AllStand, parts_in, Judges};
 
 use desk::Row;
-use messages::{Fields, NextMessage};
+use messages::Fields;
 use wire::Layout;
+
+// How far starts are marked, and how many they are.
+#[derive(Clone, Copy)]
+pub struct Upto {
+    pub at: usize,
+    pub count: usize,
+}
 
 // A window's bytes, a bit a place: for a small batch, and for any other.
 const SMALL: usize = 4096;
 
 const LARGE: usize = 262144;
-
-// Up to where starts were marked, and how many messages stand in front of that; or a message that can't be read.
-#[derive(Clone, Copy)]
-pub enum Marked {
-    Upto { at: usize, count: usize },
-    Stopped,
-}
 
 // Marks the starts of the messages from a place on, up to the end of the window or of the bytes.
 pub fn mark(
@@ -34,7 +34,7 @@ pub fn mark(
     base: usize,
     many: usize,
     area: &mut [u8],
-) -> Marked
+) -> Option<Upto>
     requires keyed_by { KeyedBy table.now l f }
     requires starts { Starts (keys_of table.now l f) front.now many base }
     requires base_in_bounds { (base < length front.now) × (0 < length area.old) }
@@ -46,17 +46,16 @@ pub fn mark(
     while at < front.len() {
         let place = at - base;
         if area.len() <= place / 8 {
-            return Marked::Upto { at, count };
+            return Some(Upto { at, count });
         }
-        let next = messages::next(table, l, f, &front[at..]);
-        let NextMessage::Message { key: _, len } = next else {
-            return Marked::Stopped;
+        let Ok(message) = messages::next(table, l, f, &front[at..]) else {
+            return None;
         };
         bits::mark(area, place);
-        at = at + len;
+        at = at + message.len;
         count = count + 1;
     }
-    Marked::Upto { at, count }
+    Some(Upto { at, count })
 }
 
 // Whether a row that leads into a window stands at its message, and leads into the bytes at all.
@@ -103,14 +102,11 @@ fn all_stand(
     requires window { Window (keys_of table.now l f) front.now base at area.now }
     ensures { AllStand (keys_of table.now l f) front.now base at (rows_in rows.now) result }
 {
-    let count = rows.len() / 16;
-    let mut i = 0;
-    while i < count {
+    for i in 0..rows.len() / 16 {
         let row = row::load(rows, i);
         if !stands(table, l, f, front, row, base, at, area) {
             return false;
         }
-        i = i + 1;
     }
     true
 }
@@ -132,15 +128,14 @@ fn by_windows(
     let mut base = 0;
     let mut count = 0;
     while base < front.len() {
-        let marked = mark(table, l, f, front, base, count, area);
-        let Marked::Upto { at, count: many } = marked else {
+        let Some(upto) = mark(table, l, f, front, base, count, area) else {
             return false;
         };
-        if !all_stand(table, l, f, front, rows, base, at, area) {
+        if !all_stand(table, l, f, front, rows, base, upto.at, area) {
             return false;
         }
-        base = at;
-        count = many;
+        base = upto.at;
+        count = upto.count;
     }
     count == rows.len() / 16
 }
@@ -154,14 +149,12 @@ fn rise(rows: &[u8]) -> bool
         return true;
     }
     let mut last = row::load(rows, 0);
-    let mut i = 1;
-    while i < count {
+    for i in 1..count {
         let next = row::load(rows, i);
         if !row::below(last, next) {
             return false;
         }
         last = next;
-        i = i + 1;
     }
     true
 }
@@ -186,8 +179,5 @@ pub fn judge(table: &[u8], l: Layout, f: Fields, front: &[u8], rows: &[u8], area
     requires area_nonzero { 0 < length area.old }
     ensures { Judges (parts_in table.now l f front.now rows.now) result }
 {
-    if rise(rows) {
-        return by_windows(table, l, f, front, rows, area);
-    }
-    false
+    rise(rows) && by_windows(table, l, f, front, rows, area)
 }

@@ -6,40 +6,31 @@ ghost use Rattle.std.specs.Prelude.{◌≤◌, ◌<◌, IfOk};
 ghost use Rattle.wire.specs.Frames.{room};
 
 use accumulator::{Accumulator, Fed};
-use say::{front, say, say_bytes, say_number};
+use say::{Hex, front};
 use std::io;
 use wire::FeedAnswer;
 
-fn say_counted(rt: &impl Print, text: &[u8], n: usize) -> io::Result<()> {
-    say(rt, text)?;
-    say_number(rt, n as u64)
-}
-
-fn say_answer(rt: &impl Print, answer: FeedAnswer) -> io::Result<()> {
-    say(rt, b"  ")?;
-    say_number(rt, numbers::feed(answer))?;
+fn name(answer: FeedAnswer) -> &'static str {
     match answer {
-        FeedAnswer::Consumed => say(rt, b" consumed"),
-        FeedAnswer::OverFull => say(rt, b" over-full"),
-        FeedAnswer::BadFrame => say(rt, b" bad frame"),
-        FeedAnswer::Frame => say(rt, b" frame"),
-        FeedAnswer::BadState => say(rt, b" bad state"),
+        FeedAnswer::Consumed => "consumed",
+        FeedAnswer::OverFull => "over-full",
+        FeedAnswer::BadFrame => "bad frame",
+        FeedAnswer::Frame => "frame",
+        FeedAnswer::BadState => "bad state",
     }
 }
 
 fn say_fed(rt: &impl Print, fed: Fed, rest: usize) -> io::Result<()> {
-    let answer = fed.answer;
-    let state = fed.state;
-    let message = fed.message;
-    say_answer(rt, answer)?;
-    say_counted(rt, b", rest ", rest)?;
-    say_counted(rt, b", idx ", state.idx)?;
-    if state.waiting {
-        say(rt, b", waiting")?;
+    let number = numbers::feed(fed.answer);
+    print!(rt;
+        "  {number} {}, rest {rest}, idx {}",
+        name(fed.answer),
+        fed.state.idx
+    )?;
+    if fed.state.waiting {
+        print!(rt; ", waiting")?;
     }
-    say(rt, b", message")?;
-    say_bytes(rt, front(&message, fed.len))?;
-    say(rt, b"\n")
+    println!(rt; ", message{}", Hex(front(&fed.message, fed.len)))
 }
 
 // Feeds a chunk until nothing is left of it.
@@ -75,8 +66,7 @@ fn main(rt: HostRuntime) -> io::Result<()> {
     let mut at = 0;
     while at < end {
         let to = cut(at, end);
-        say_counted(&rt, b"chunk of ", to - at)?;
-        say(&rt, b"\n")?;
+        println!(&rt; "chunk of {}", to - at)?;
         state = feed_all(&rt, state, &input[at..to])?;
         at = to;
     }

@@ -11,7 +11,7 @@ use borrow.Author.Tests.{eqb-true, ltb-true, eq-eqb, ne_eqb, le-leb, lt-leb, lt-
 use Rattle.wire.specs.declared.Refusal.TheVariants.{Trailer, Record}
 use Rattle.wire.specs.declared.Ending.{Ending}
 use Rattle.wire.specs.declared.Layout.{Layout}
-use Rattle.wire.specs.declared.Checked.TheVariants.{Good, Bad}
+use Rattle.wire.specs.Checked.{Good, Bad}
 use Rattle.wire.specs.Tests.{pick, given, both}
 use Rattle.wire.specs.Table.{u16_at, u32_at, TableForm, first, second, size_of, mark_of, table_form, ending_at, layout_at, good_trailer, kinds, is_kind, kind_of, node_at, record_of, below, good_kind, good_node, chain_of, short_chain, good_in, check_from, check_at, check_as, check}
 use Rattle.laws.proofs.Splits.{by-lt, by_le, by-eq, both_left, both_right}

@@ -9,7 +9,7 @@ use native.Mathlib.Omega.{arith}
 use lib.ListN.{length}
 use borrow.Author.Tests.{ltb-true}
 use Rattle.wire.specs.declared.Layout.{Layout}
-use Rattle.wire.specs.declared.Checked.TheVariants.{Good}
+use Rattle.wire.specs.Checked.{Good}
 use Rattle.wire.specs.Shape.{Kind, struct}
 use Rattle.wire.specs.Walk.{Follow, each, only, following, is_known, Walk, Step, all, times, along, walk, walks}
 use Rattle.wire.specs.Table.{u16_at, kinds, kind_of, Node, node_at, record_of, first_child, child_count, shapes_at, check}

@@ -11,7 +11,7 @@ ghost use Rattle.laws.specs.Tables.{node_first, node_count, GoodTable};
 ghost use Rattle.laws.specs.Chains.{longest_at, kept_chain};
 ghost use Rattle.table.specs.Parts.{Inside, Small, fitting, listed, chain_at, bad_at, followed, Falls, fields_of, Flat};
 
-use wire::{Checked, Ending, Layout, Refusal};
+use wire::{Ending, Layout, Refusal, RefusedAt};
 
 // Each form owns its trailer's bytes and its mark, and the most nodes and bytes of child list.
 #[derive(Clone, Copy)]
@@ -457,20 +457,20 @@ fn second_bad(table: &[u8], l: Layout) -> usize
 }
 
 // The answer by the first bad node.
-fn answer(l: Layout, bad: usize) -> Checked
+fn answer(l: Layout, bad: usize) -> Result<Layout, RefusedAt>
     ensures { result ≡ bad_at l bad }
 {
     if bad < l.nodes {
-        return Checked::Bad {
+        return Err(RefusedAt {
             why: Refusal::Record,
             place: bad,
-        };
+        });
     }
-    Checked::Good { layout: l }
+    Ok(l)
 }
 
 // A table of the second form.
-fn check_second(table: &[u8]) -> Checked
+fn check_second(table: &[u8]) -> Result<Layout, RefusedAt>
     ensures { result ≡ check_as second_form table.now }
 {
     let len = table.len();
@@ -483,27 +483,27 @@ fn check_second(table: &[u8]) -> Checked
             return answer(l, bad);
         }
     }
-    Checked::Bad {
+    Err(RefusedAt {
         why: Refusal::Trailer,
         place: 0,
-    }
+    })
 }
 
 // The same answer, made anew: one that a call left in memory then meets those of other arms in registers.
-fn anew(got: Checked) -> Checked
+fn anew(got: Result<Layout, RefusedAt>) -> Result<Layout, RefusedAt>
     ensures { result ≡ got }
 {
-    let Checked::Good { layout } = got else {
+    let Ok(layout) = got else {
         return got;
     };
-    Checked::Good { layout }
+    Ok(layout)
 }
 
 // The table's layout if it is good; else why it is not, and the first node that is not. What has no good trailer of the first
 // form is left to the second's check, by two calls: of one alone the compiler would make a part of this function, and every
 // check would pay for the array of chains. It is lent the table as a part: to lend the table itself, every check would first copy
 // where it lies, by a load that waits for the caller's two stores.
-pub fn check(table: &[u8]) -> Checked
+pub fn check(table: &[u8]) -> Result<Layout, RefusedAt>
     ensures { result ≡ check_of table.now }
 {
     let len = table.len();

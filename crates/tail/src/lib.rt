@@ -6,10 +6,5 @@ ghost use Rattle.std.specs.Prelude.{◌≡◌, drop};
 pub fn from(bytes: &[u8], place: usize) -> &[u8]
     ensures { result.now ≡ drop place bytes.now }
 {
-    let end = bytes.len();
-    if place <= end {
-        &bytes[place..]
-    } else {
-        &bytes[end..]
-    }
+    bytes.get(place..).unwrap_or(&[])
 }

@@ -1,6 +1,7 @@
 -- A char, a text or bytes that were taken: what stands between the quotes is the spelling of one content, and the value's bytes are that
 -- content behind its count.
 -- Assumes nothing.
+use Rattle.std.specs.Prelude.{Ok, Err}
 use mathlib.Core.Path.{◌≡◌, refl, sym, ap, ◌∙◌}
 use mathlib.Core.Path as paths
 use mathlib.Core.Bool.{Bool, true, false}
@@ -27,12 +28,14 @@ use Rattle.spellings.specs.Exact.{Goes, neither, each, Beside}
 use Rattle.spellings.proofs.Beside.{scans-alike}
 use Rattle.spellings.proofs.Quoted.{quoted-at, char-at}
 use Rattle.put_number.specs.Lays.{Lays}
+use Rattle.take_number.specs.declared.Stop.{Stop}
 use Rattle.take_number.specs.Scans.{Ends}
 use Rattle.take_text.specs.declared.Quoted.{Quoted}
 use Rattle.take_text.specs.Marks.{Mark, before, within, behind, may_go_on, mark_step, marks, is_whole, Answers}
+use Rattle.take_text.specs.Marks as mark
 use Rattle.put_content.specs.Undone.{undoubled}
 use Rattle.put_content.proofs.Undoing.{undone}
-use Rattle.take_field.specs.declared.Field.TheVariants.{Took, Stops}
+use Rattle.take_field.specs.Field.{Took}
 use Rattle.take_field.specs.Taking.{Takes, took, stops, TakesKind, quoted_kind}
 use Rattle.take_field.proofs.Numbers.{gone}
 
@@ -103,32 +106,27 @@ pub record Content (one : Bool) (s : List ℕ) (i : ℕ) (q : Quoted) : Type 0 w
   pub long : i + 2 ≤ q.at
   pub inside : q.at ≤ length s
 
-pub whole-content : {one : Bool} {s : List ℕ} {i : ℕ} {q : Quoted} → Answers one before s i q → q.whole ≡ true → Content one s i q
-whole-content {one} {s} {i} {q} a w =
-    let e = went one a.ends in
-    go e.state e.ends (paths.subst (λ y. Same y e.state) (a.said.len w) e.same)
+pub whole-content : {one : Bool} {s : List ℕ} {i : ℕ} {q : Quoted} → Answers one before s i (Ok q) → Content one s i q
+whole-content {one} {s} {i} {q} (mark.quoted e w) = let x = went one e in at x.state x.ends x.same refl w
   where
-    go : (z : Quoting) → Ends (quotes one) outside s i z q.at → Same (behind q.len) z → Content one s i q
-    go z n m = at z n m refl
-      where
-        at : {y : Mark} (z : Quoting) → Ends (quotes one) outside s i z q.at → Same y z → y ≡ behind q.len → Content one s i q
-        at outside n outsides f = let z : ◌≡◌ {A = ℕ} 0 1 = cc in absurd (omega arith)
-        at (inside c k lo hi) n (insides d l m o) f = let z : ◌≡◌ {A = ℕ} 0 1 = cc in absurd (omega arith)
-        at (at_quote c) n (at_quotes d) f =
-            let g = gone (quotes one) n in
-            let v = quoted-at one g.goes in
-            let len : length c ≡ q.len = cc in
-            record {
-              bytes = c;
-              ends = n;
-              goes = (g.front, g.goes);
-              valid = v.0;
-              len = sym len;
-              whole = ap (is_whole one) f ∙ ap (is_whole one) (sym (a.said.len w)) ∙ sym a.said.whole ∙ w;
-              between = inner s (doubled c) (drop q.at s) i q.at (g.split ∙ ap (λ t. t ++ drop q.at s) v.1) (rw v.1 at g.long);
-              long = omega (arith, g.long, ap length v.1, quoted-long (doubled c));
-              inside = n.inside;
-            }
+    at : {y : Mark} (z : Quoting) → Ends (quotes one) outside s i z q.at → Same y z → y ≡ behind q.len → is_whole one (behind q.len) ≡ true → Content one s i q
+    at outside n outsides f w = let z : ◌≡◌ {A = ℕ} 0 1 = cc in absurd (omega arith)
+    at (inside c k lo hi) n (insides d l m o) f w = let z : ◌≡◌ {A = ℕ} 0 1 = cc in absurd (omega arith)
+    at (at_quote c) n (at_quotes d) f w =
+        let g = gone (quotes one) n in
+        let v = quoted-at one g.goes in
+        let len : length c ≡ q.len = cc in
+        record {
+          bytes = c;
+          ends = n;
+          goes = (g.front, g.goes);
+          valid = v.0;
+          len = sym len;
+          whole = ap (is_whole one) f ∙ w;
+          between = inner s (doubled c) (drop q.at s) i q.at (g.split ∙ ap (λ t. t ++ drop q.at s) v.1) (rw v.1 at g.long);
+          long = omega (arith, g.long, ap length v.1, quoted-long (doubled c));
+          inside = n.inside;
+        }
 
 -- what is not whole has no value
 not-whole : (one : Bool) (y : Mark) (z : Quoting) → Same y z → is_whole one y ≡ false → quoted_value one z ≡ none
@@ -151,10 +149,10 @@ char-bytes : (c : List ℕ) → is_char (first_char c) ≡ true → char_bytes (
 unfolding value_bytes or_nothing head_bytes plain_bytes
 char-bytes c h e = rw (single-yes (is_char (first_char c)) 0 (with_count (char_bytes (first_char c))) h refl, e)
 
-module _ {s : List ℕ} {i : ℕ} {q : Quoted} where
-  pub text-took : {u n : ℕ} {out after : List ℕ} (c : Content false s i q) → Lays (with_count c.bytes) u out n after → TakesKind (kind_of 12) s i u out (Took q.at n) after
+module _ {s : List ℕ} {i : ℕ} where
+  pub text-took : {q : Quoted} {u n : ℕ} {out after : List ℕ} (c : Content false s i q) → Lays (with_count c.bytes) u out n after → TakesKind (kind_of 12) s i u out (Took q.at n) after
   unfolding kind_of kinds style_of style_of_content
-  text-took {u} {n} {out} {after} c l =
+  text-took {q} {u} {n} {out} {after} c l =
       record { of = λ f e. paths.subst (λ f. Takes f (pooled text) s i u out (Took q.at n) after) (some-injective _ f e) go }
     where
       go : Takes any_text (pooled text) s i u out (Took q.at n) after
@@ -162,21 +160,19 @@ module _ {s : List ℕ} {i : ℕ} {q : Quoted} where
           let m : Lays (value_bytes (pooled text) (content c.bytes)) u out n after = rw (text-bytes c.bytes c.valid) l in
           unfold acceptor quoted_value in took {v = content c.bytes} c.ends refl m
 
-  pub text-stops : {u : ℕ} {out : List ℕ} → Answers false before s i q → q.whole ≡ false → TakesKind (kind_of 12) s i u out (Stops q.at) out
+  pub text-stops : {r : Stop} {u : ℕ} {out : List ℕ} → Answers false before s i (Err r) → TakesKind (kind_of 12) s i u out (Err r) out
   unfolding kind_of kinds style_of style_of_content
-  text-stops {u} {out} a w =
-      record { of = λ f e. paths.subst (λ f. Takes f (pooled text) s i u out (Stops q.at) out) (some-injective _ f e) go }
+  text-stops {r} {u} {out} a =
+      record { of = λ f e. paths.subst (λ f. Takes f (pooled text) s i u out (Err r) out) (some-injective _ f e) (go a) }
     where
-      go : Takes any_text (pooled text) s i u out (Stops q.at) out
-      go = unfold acceptor in
-          (let e = went false a.ends in
-          stops e.ends (not-whole false a.state e.state e.same (sym a.said.whole ∙ w)) refl)
+      go : Answers false before s i (Err r) → Takes any_text (pooled text) s i u out (Err r) out
+      go (mark.stops {y = y} x w) = unfold acceptor in (let e = went false x in stops e.ends (not-whole false y e.state e.same w) refl)
 
   -- ---- chars
 
-  pub char-took : {u n : ℕ} {out after : List ℕ} (c : Content true s i q) → Lays (with_count c.bytes) u out n after → TakesKind (kind_of 11) s i u out (Took q.at n) after
+  pub char-took : {q : Quoted} {u n : ℕ} {out after : List ℕ} (c : Content true s i q) → Lays (with_count c.bytes) u out n after → TakesKind (kind_of 11) s i u out (Took q.at n) after
   unfolding kind_of kinds style_of style_of_plain
-  char-took {u} {n} {out} {after} c l =
+  char-took {q} {u} {n} {out} {after} c l =
       record { of = λ f e. paths.subst (λ f. Takes f (plain char) s i u out (Took q.at n) after) (some-injective _ f e) (go c.bytes c.ends c.goes.1 c.whole l) }
     where
       go : (d : List ℕ) → Ends (quotes true) outside s i (at_quote d) q.at → Goes (quotes true) outside c.goes.0 (at_quote d) → is_whole true (behind (length d)) ≡ true
@@ -187,15 +183,13 @@ module _ {s : List ℕ} {i : ℕ} {q : Quoted} where
           let m : Lays (value_bytes (plain char) (number (first_char (b ∷ d)) 0)) u out n after = rw (char-bytes (b ∷ d) h.0 h.1) l in
           unfold acceptor quoted_value char_value in took {v = number (first_char (b ∷ d)) 0} x refl m
 
-  pub char-stops : {u : ℕ} {out : List ℕ} → Answers true before s i q → q.whole ≡ false → TakesKind (kind_of 11) s i u out (Stops q.at) out
+  pub char-stops : {r : Stop} {u : ℕ} {out : List ℕ} → Answers true before s i (Err r) → TakesKind (kind_of 11) s i u out (Err r) out
   unfolding kind_of kinds style_of style_of_plain
-  char-stops {u} {out} a w =
-      record { of = λ f e. paths.subst (λ f. Takes f (plain char) s i u out (Stops q.at) out) (some-injective _ f e) go }
+  char-stops {r} {u} {out} a =
+      record { of = λ f e. paths.subst (λ f. Takes f (plain char) s i u out (Err r) out) (some-injective _ f e) (go a) }
     where
-      go : Takes one_char (plain char) s i u out (Stops q.at) out
-      go = unfold acceptor in
-          (let e = went true a.ends in
-          stops e.ends (not-whole true a.state e.state e.same (sym a.said.whole ∙ w)) refl)
+      go : Answers true before s i (Err r) → Takes one_char (plain char) s i u out (Err r) out
+      go (mark.stops {y = y} x w) = unfold acceptor in (let e = went true x in stops e.ends (not-whole true y e.state e.same w) refl)
 
 -- ---- either, by its number
 
@@ -207,6 +201,6 @@ pub quoted-took : (one : Bool) {s : List ℕ} {i : ℕ} {q : Quoted} {u n : ℕ}
 quoted-took true c l = char-took c l
 quoted-took false c l = text-took c l
 
-pub quoted-stops : (one : Bool) {s : List ℕ} {i : ℕ} {q : Quoted} {u : ℕ} {out : List ℕ} → Answers one before s i q → q.whole ≡ false → TakesKind (quoted_kind one) s i u out (Stops q.at) out
-quoted-stops true a w = char-stops a w
-quoted-stops false a w = text-stops a w
+pub quoted-stops : (one : Bool) {s : List ℕ} {i : ℕ} {r : Stop} {u : ℕ} {out : List ℕ} → Answers one before s i (Err r) → TakesKind (quoted_kind one) s i u out (Err r) out
+quoted-stops true a = char-stops a
+quoted-stops false a = text-stops a

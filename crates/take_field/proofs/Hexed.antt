@@ -1,6 +1,7 @@
 -- Bytes that were taken in hexadecimal: what stands between the quotes are the digits of one content, and the value's bytes are that
 -- content behind its count.
 -- Assumes nothing.
+use Rattle.std.specs.Prelude.{Ok, Err}
 use mathlib.Core.Path.{◌≡◌, refl, sym, ap, ◌∙◌}
 use mathlib.Core.Path as paths
 use mathlib.Core.Bool.{true, false}
@@ -26,12 +27,13 @@ use Rattle.spellings.specs.Exact.{neither, each, Beside, styled}
 use Rattle.spellings.proofs.Beside.{scans-alike}
 use Rattle.spellings.proofs.Hexes.{hex-exact}
 use Rattle.put_number.specs.Lays.{Lays}
+use Rattle.take_number.specs.declared.Stop.{Stop}
 use Rattle.take_number.specs.Scans.{Ends}
 use Rattle.take_text.specs.declared.Quoted.{Quoted}
 use Rattle.take_hex.specs.Pairs.{is_hex, Pair, pair_step, counts, is_closed, Answers}
 use Rattle.take_hex.specs.Pairs as pair
 use Rattle.put_content.specs.Undone.{number_of, unhexed, IsHex, digit, letter, AreHex}
-use Rattle.take_field.specs.declared.Field.TheVariants.{Took, Stops}
+use Rattle.take_field.specs.Field.{Took}
 use Rattle.take_field.specs.Taking.{Takes, took, stops, TakesKind}
 use Rattle.take_field.proofs.Numbers.{gone}
 use Rattle.take_field.proofs.Contents.{inner, quoted-long}
@@ -120,11 +122,9 @@ pub record Content (s : List ℕ) (i : ℕ) (q : Quoted) : Type 0 where
   pub long : i + 2 ≤ q.at
   pub inside : q.at ≤ length s
 
-pub whole-content : {s : List ℕ} {i : ℕ} {q : Quoted} → Answers pair.before s i q → q.whole ≡ true → Content s i q
+pub whole-content : {s : List ℕ} {i : ℕ} {q : Quoted} → Answers pair.before s i (Ok q) → Content s i q
 unfolding acceptor styled may spelled
-whole-content {s} {i} {q} a w =
-    let e = went a.ends in
-    at e.state e.ends e.same (a.len w)
+whole-content {s} {i} {q} (pair.hexed x) = let e = went x in at e.state e.ends e.same refl
   where
     at : {y : Pair} (z : Hexing) → Ends pairs before s i z q.at → Same y z → y ≡ pair.closed q.len → Content s i q
     at before n befores f = let z : ◌≡◌ {A = ℕ} 0 1 = cc in absurd (omega arith)
@@ -156,10 +156,10 @@ raw-bytes : (c : List ℕ) → value_bytes (pooled raw) (content c) ≡ with_cou
 unfolding value_bytes or_nothing head_bytes part is_content
 raw-bytes c = rw (when-yes _ (with_count (take (length c) c)) (both_yes _ _ (le-leb (0 + length c) (length c) (omega arith)) refl), take-length c)
 
-module _ {s : List ℕ} {i : ℕ} {q : Quoted} where
-  pub hex-took : {u n : ℕ} {out after : List ℕ} (c : Content s i q) → Lays (with_count c.bytes) u out n after → TakesKind (kind_of 13) s i u out (Took q.at n) after
+module _ {s : List ℕ} {i : ℕ} where
+  pub hex-took : {q : Quoted} {u n : ℕ} {out after : List ℕ} (c : Content s i q) → Lays (with_count c.bytes) u out n after → TakesKind (kind_of 13) s i u out (Took q.at n) after
   unfolding kind_of kinds style_of style_of_content
-  hex-took {u} {n} {out} {after} c l =
+  hex-took {q} {u} {n} {out} {after} c l =
       record { of = λ f e. paths.subst (λ f. Takes f (pooled raw) s i u out (Took q.at n) after) (some-injective _ f e) go }
     where
       go : Takes hex (pooled raw) s i u out (Took q.at n) after
@@ -167,12 +167,10 @@ module _ {s : List ℕ} {i : ℕ} {q : Quoted} where
           let m : Lays (value_bytes (pooled raw) (content c.bytes)) u out n after = rw (raw-bytes c.bytes) l in
           unfold acceptor hexed_value in took {v = content c.bytes} c.ends refl m
 
-  pub hex-stops : {u : ℕ} {out : List ℕ} → Answers pair.before s i q → q.whole ≡ false → TakesKind (kind_of 13) s i u out (Stops q.at) out
+  pub hex-stops : {r : Stop} {u : ℕ} {out : List ℕ} → Answers pair.before s i (Err r) → TakesKind (kind_of 13) s i u out (Err r) out
   unfolding kind_of kinds style_of style_of_content
-  hex-stops {u} {out} a w =
-      record { of = λ f e. paths.subst (λ f. Takes f (pooled raw) s i u out (Stops q.at) out) (some-injective _ f e) go }
+  hex-stops {r} {u} {out} a =
+      record { of = λ f e. paths.subst (λ f. Takes f (pooled raw) s i u out (Err r) out) (some-injective _ f e) (go a) }
     where
-      go : Takes hex (pooled raw) s i u out (Stops q.at) out
-      go = unfold acceptor in
-          (let e = went a.ends in
-          stops e.ends (not-whole a.state e.state e.same (sym a.whole ∙ w)) refl)
+      go : Answers pair.before s i (Err r) → Takes hex (pooled raw) s i u out (Err r) out
+      go (pair.stops {y = y} x w) = unfold acceptor in (let e = went x in stops e.ends (not-whole y e.state e.same w) refl)

@@ -27,11 +27,10 @@ use Rattle.columns.proofs.Styled.{by-style}
 use Rattle.write_item.specs.Own.{Fits, SpellsEntry}
 use Rattle.put_number.proofs.Laying.{lays-puts}
 use Rattle.put_field.specs.Fields.{Largest, IsNumber, low, high}
-use Rattle.take_number.specs.declared.Number.{Number}
-use Rattle.take_number.specs.declared.Number.TheVariants as number
+use Rattle.take_number.specs.Number as number
 use Rattle.take_number.specs.Scans.{Ends, TakesNumber}
 use Rattle.take_number.specs.Scans as scans
-use Rattle.take_field.specs.declared.Field.TheVariants.{Took, Stops}
+use Rattle.take_field.specs.Field.{Took, Stops}
 use Rattle.take_field.specs.Taking.{Takes, took, stops, TakesKind}
 
 -- ---- how far an acceptor went
@@ -144,26 +143,18 @@ module _ (k : Kind) {b a : ℕ} (e : style_of k ≡ some (numeral b a)) (s : Lis
   unfolding acceptor styled
   taken-may {y} {w} n v = let g = gone (numbers b a) n in ((style-exact k e).whole g.goes v).0
 
-  pub number_fits : {w j : ℕ} {r : Number} → TakesNumber b a s i r → r ≡ number.Is w j → (pool : List ℕ) → Fits k pool w 0
-  number_fits {w} {j} t q pool = go (rw q at t)
-    where
-      go : TakesNumber b a s i (number.Is w j) → Fits k pool w 0
-      go (scans.takes n v) = record { children = 0; bytes = value_bytes k (number w 0); is = number-bytes k w e (taken-may n v) pool }
+  pub number_fits : {w j : ℕ} → TakesNumber b a s i (number.Is w j) → (pool : List ℕ) → Fits k pool w 0
+  number_fits {w} (scans.takes n v) pool = record { children = 0; bytes = value_bytes k (number w 0); is = number-bytes k w e (taken-may n v) pool }
 
-  pub number-took : {w j u n : ℕ} {r : Number} {out pool after : List ℕ} → TakesNumber b a s i r → r ≡ number.Is w j → SpellsEntry k pool w 0 u out n after
+  pub number-took : {w j u n : ℕ} {out pool after : List ℕ} → TakesNumber b a s i (number.Is w j) → SpellsEntry k pool w 0 u out n after
       → TakesKind k s i u out (Took j n) after
   unfolding acceptor
-  number-took {w} {j} {u} {n} {out = out} {pool = pool} {after = after} t q p = record { of = as-style (λ f. Takes f k s i u out (Took j n) after) (go (rw q at t)) }
-    where
-      go : TakesNumber b a s i (number.Is w j) → Takes (numeral b a) k s i u out (Took j n) after
-      go (scans.takes m v) = took m v (lays-puts (p.puts 0 (number-bytes k w e (taken-may m v) pool)))
+  number-took {w} {j} {u} {n} {out} {pool} {after} (scans.takes m v) p =
+      record { of = as-style (λ f. Takes f k s i u out (Took j n) after) (took m v (lays-puts (p.puts 0 (number-bytes k w e (taken-may m v) pool)))) }
 
-  pub number-stops : {j u : ℕ} {r : Number} {out : List ℕ} → TakesNumber b a s i r → r ≡ number.Stops j → TakesKind k s i u out (Stops j) out
+  pub number-stops : {j u : ℕ} {out : List ℕ} → TakesNumber b a s i (number.Stops j) → TakesKind k s i u out (Stops j) out
   unfolding acceptor
-  number-stops {j} {u} {out = out} t q = record { of = as-style (λ f. Takes f k s i u out (Stops j) out) (go (rw q at t)) }
-    where
-      go : TakesNumber b a s i (number.Stops j) → Takes (numeral b a) k s i u out (Stops j) out
-      go (scans.stops m v) = stops m v refl
+  number-stops {j} {u} {out} (scans.stops m v) = record { of = as-style (λ f. Takes f k s i u out (Stops j) out) (stops m v refl) }
 
 -- the number of a kind of numbers is a leaf's
 pub number-leaf : {n : ℕ} → IsNumber n → IsLeaf n

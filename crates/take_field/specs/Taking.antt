@@ -9,8 +9,8 @@ use Rattle.desk.specs.Csv.{Style, style_of, value_bytes}
 use Rattle.spellings.specs.Accept.{acceptor}
 use Rattle.put_number.specs.Lays.{Lays}
 use Rattle.take_number.specs.Scans.{Ends}
-use Rattle.take_field.specs.declared.Field.{Field}
-use Rattle.take_field.specs.declared.Field.TheVariants.{Took, Stops}
+use Rattle.take_field.specs.Field.{Field}
+use Rattle.take_field.specs.Field.{Took, Stops}
 
 -- a field in a style, of a kind: its value's bytes are laid behind the first u, or it is not whole
 pub data Takes (f : Style) (k : Kind) (s : List ℕ) (i u : ℕ) (out : List ℕ) : Field → List ℕ → Type 0 where

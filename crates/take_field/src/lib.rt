@@ -10,13 +10,13 @@ ghost use Rattle.put_field.specs.Fields.{Largest, IsNumber};
 ghost use Rattle.columns.specs.Columns.{is_some};
 ghost use Rattle.take_field.specs.Taking.{TakesKind, quoted_kind};
 
-use take_number::Number;
+use take_number::Stop;
 
-// The place behind a field, and how many bytes the output has; or where the row stops.
+// A field that was taken: the place behind it, and the length of its form.
 #[derive(Clone, Copy)]
-pub enum Field {
-    Took { at: usize, len: usize },
-    Stops { at: usize },
+pub struct Took {
+    pub at: usize,
+    pub len: usize,
 }
 
 // The size of a kind's smallest number, by its largest: only the signed kinds have numbers below zero.
@@ -34,57 +34,48 @@ fn smallest(number: u8, above: u64) -> u64
 }
 
 // A number.
-fn take_plain(number: u8, row: &[u8], at: usize, out: &mut [u8], used: usize) -> Field
+fn take_plain(number: u8, row: &[u8], at: usize, out: &mut [u8], used: usize) -> Result<Took, Stop>
     requires number { IsNumber number }
     requires at_in_bounds { at ≤ length row.now }
     ensures { TakesKind (kind_of number) row.now at used out.old result out.new }
 {
     let above = put_field::largest(number);
     let below = smallest(number, above);
-    let got = take_number::take_number(below, above, row, at);
-    match got {
-        Number::Stops { at: end } => Field::Stops { at: end },
-        Number::Is { word, at: end } => {
-            let len = write_item::put_leaf(number, word, 0, row, out, used);
-            Field::Took { at: end, len }
-        }
-    }
+    let got = take_number::take_number(below, above, row, at)?;
+    let len = write_item::put_leaf(number, got.word, 0, row, out, used);
+    Ok(Took { at: got.at, len })
 }
 
 // A text, or one char.
-fn take_quoted(one: bool, row: &[u8], at: usize, out: &mut [u8], used: usize) -> Field
+fn take_quoted(one: bool, row: &[u8], at: usize, out: &mut [u8], used: usize) -> Result<Took, Stop>
     requires { at ≤ length row.now }
     ensures { TakesKind (quoted_kind one) row.now at used out.old result out.new }
 {
-    let got = take_text::take_text(one, row, at);
-    let end = got.at;
-    if got.whole {
-        let start = at + 1;
-        let close = end - 1;
-        let len = put_content::put_text(&row[start..close], got.len, out, used);
-        return Field::Took { at: end, len };
-    }
-    Field::Stops { at: end }
+    let got = take_text::take_text(one, row, at)?;
+    let content = &row[at + 1..got.at - 1];
+    let len = put_content::put_text(content, got.len, out, used);
+    Ok(Took { at: got.at, len })
 }
 
 // Bytes.
-fn take_bytes(row: &[u8], at: usize, out: &mut [u8], used: usize) -> Field
+fn take_bytes(row: &[u8], at: usize, out: &mut [u8], used: usize) -> Result<Took, Stop>
     requires { at ≤ length row.now }
     ensures { TakesKind (kind_of 13) row.now at used out.old result out.new }
 {
-    let got = take_hex::take_hex(row, at);
-    let end = got.at;
-    if got.whole {
-        let start = at + 1;
-        let close = end - 1;
-        let len = put_content::put_bytes(&row[start..close], got.len, out, used);
-        return Field::Took { at: end, len };
-    }
-    Field::Stops { at: end }
+    let got = take_hex::take_hex(row, at)?;
+    let content = &row[at + 1..got.at - 1];
+    let len = put_content::put_bytes(content, got.len, out, used);
+    Ok(Took { at: got.at, len })
 }
 
 // The field of a kind.
-pub fn take_field(number: u8, row: &[u8], at: usize, out: &mut [u8], used: usize) -> Field
+pub fn take_field(
+    number: u8,
+    row: &[u8],
+    at: usize,
+    out: &mut [u8],
+    used: usize,
+) -> Result<Took, Stop>
     requires number_value { is_some (style_of (kind_of number)) ≡ true }
     requires at_in_bounds { at ≤ length row.now }
     ensures { TakesKind (kind_of number) row.now at used out.old result out.new }

@@ -1,5 +1,6 @@
 -- The steps of bytes in hexadecimal: the first quote, two digits, and the closing quote.
 -- Assumes nothing.
+use Rattle.std.specs.Prelude.{Result, Ok, Err}
 use mathlib.Core.Path.{◌≡◌, refl, ap, ◌∙◌}
 use mathlib.Core.Bool.{true, false}
 use mathlib.Core.List.{List}
@@ -13,12 +14,13 @@ use Rattle.wire.specs.Tests.{pick, both}
 use Rattle.laws.proofs.Splits.{by-test, by-lt, not-both, both_left, both_right}
 use Rattle.desk.specs.Csv.{quote}
 use Rattle.spellings.specs.Accept.{when, is_digit}
+use Rattle.take_number.specs.declared.Stop.{Stop}
 use Rattle.take_number.specs.Scans.{Ends}
 use Rattle.take_number.proofs.Scanning.{ends-here, ends_on}
 use Rattle.take_text.specs.declared.Quoted.{Quoted}
 use Rattle.take_text.specs.Marks.{is_quote}
 use Rattle.take_text.proofs.Marking.{quote-there, quote-test}
-use Rattle.take_hex.specs.Pairs.{is_hex, hex_at, Pair, before, even, odd, closed, pair_step, counts, is_closed, Answers}
+use Rattle.take_hex.specs.Pairs.{is_hex, hex_at, Pair, before, even, odd, closed, pair_step, counts, is_closed, Answers, hexed, stops}
 
 -- ---- tests
 
@@ -83,25 +85,20 @@ even-none n b e h = rw (e, h)
 
 -- ---- answers
 
-abbrev no : ℕ → Quoted
-no i = record { whole = false; len = 0; at = i }
+-- inside they are not closed
+not_closed : (n : ℕ) → is_closed (even n) ≡ false
+unfolding is_closed
+not_closed n = refl
 
 module _ (n : ℕ) (s : List ℕ) (i : ℕ) where
-  pub closes : is_quote s i ≡ true → Answers (even n) s i (record { whole = true; len = n; at = i + 1 })
-  unfolding is_closed pair_step
+  pub closes : is_quote s i ≡ true → Answers (even n) s i (Ok (record { len = n; at = i + 1 }))
+  unfolding pair_step
   closes q =
       let l = quote-there s i q in
-      record {
-        state = closed n;
-        ends = ends_on counts s i l.0 (close-step n (get_or s i 0) l.1) (ends-here counts s (i + 1) (omega (arith, l.0)) (λ m. refl));
-        whole = refl;
-        len = λ e. refl;
-      }
+      hexed (ends_on counts s i l.0 (close-step n (get_or s i 0) l.1) (ends-here counts s (i + 1) (omega (arith, l.0)) (λ m. refl)))
 
-  pub closes-not : i ≤ length s → hex_at s i ≡ false → is_quote s i ≡ false → Answers (even n) s i (no i)
-  unfolding is_closed
-  closes-not h e q =
-      record { state = even n; ends = ends-here counts s i h (λ l. even-none n (get_or s i 0) (quote-test s i l ∙ q) (hex-none s i e l)); whole = refl; len = λ e. not-both e refl }
+  pub closes-not : i ≤ length s → hex_at s i ≡ false → is_quote s i ≡ false → Answers (even n) s i (Err (record { at = i }))
+  closes-not h e q = stops (ends-here counts s i h (λ l. even-none n (get_or s i 0) (quote-test s i l ∙ q) (hex-none s i e l))) (not_closed n)
 
 pub record Going (s : List ℕ) (from at n : ℕ) : Type 0 where
   pub finish : {y : Pair} {z : ℕ} → Ends counts (even n) s at y z → Ends counts (even 0) s from y z
@@ -112,24 +109,19 @@ pub going-begin : (s : List ℕ) (from : ℕ) → from ≤ length s → Going s 
 going-begin s from h = record { finish = λ e. e; inside = h; few = omega arith }
 
 module _ {s : List ℕ} {from at n : ℕ} (g : Going s from at n) where
-  pub going-close : {q : Quoted} → Answers (even n) s at q → Answers (even 0) s from q
-  going-close r = record { state = r.state; ends = g.finish r.ends; whole = r.whole; len = r.len }
+  pub going-close : {r : Result Quoted Stop} → Answers (even n) s at r → Answers (even 0) s from r
+  going-close (hexed e) = hexed (g.finish e)
+  going-close (stops e c) = stops (g.finish e) c
 
-  pub going_end : length s ≤ at → Answers (even 0) s from (no at)
-  unfolding is_closed
-  going_end h = record { state = even n; ends = g.finish (ends-here counts s at g.inside (λ l. absurd (omega arith))); whole = refl; len = λ e. not-both e refl }
+  pub going_end : length s ≤ at → Answers (even 0) s from (Err (record { at = at }))
+  going_end h = stops (g.finish (ends-here counts s at g.inside (λ l. absurd (omega arith)))) (not_closed n)
 
   module _ (h : hex_at s at ≡ true) where
-    pub going-odd : hex_at s (at + 1) ≡ false → Answers (even 0) s from (no (at + 1))
+    pub going-odd : hex_at s (at + 1) ≡ false → Answers (even 0) s from (Err (record { at = at + 1 }))
     unfolding is_closed
     going-odd e =
         let l = hex-there s at h in
-        record {
-          state = odd n;
-          ends = g.finish (ends_on counts s at l.0 (odd_step n (get_or s at 0) l.1) (ends-here counts s (at + 1) (omega (arith, l.0)) (λ m. odd-none n (get_or s (at + 1) 0) (hex-none s (at + 1) e m))));
-          whole = refl;
-          len = λ e. not-both e refl;
-        }
+        stops {y = odd n} (g.finish (ends_on counts s at l.0 (odd_step n (get_or s at 0) l.1) (ends-here counts s (at + 1) (omega (arith, l.0)) (λ m. odd-none n (get_or s (at + 1) 0) (hex-none s (at + 1) e m))))) refl
 
     pub going_on : hex_at s (at + 1) ≡ true → Going s from (at + 1 + 1) (n + 1)
     going_on e =
@@ -152,11 +144,10 @@ unfolding pair_step when
 before-none b e = rw e
 
 module _ (s : List ℕ) (i : ℕ) where
-  pub opened : {q : Quoted} → is_quote s i ≡ true → Answers (even 0) s (i + 1) q → Answers before s i q
-  opened h r =
-      let l = quote-there s i h in
-      record { state = r.state; ends = ends_on counts s i l.0 (before-step (get_or s i 0) l.1) r.ends; whole = r.whole; len = r.len }
+  pub opened : {r : Result Quoted Stop} → is_quote s i ≡ true → Answers (even 0) s (i + 1) r → Answers before s i r
+  opened h (hexed e) = let l = quote-there s i h in hexed (ends_on counts s i l.0 (before-step (get_or s i 0) l.1) e)
+  opened h (stops e c) = let l = quote-there s i h in stops (ends_on counts s i l.0 (before-step (get_or s i 0) l.1) e) c
 
-  pub not_opened : i ≤ length s → is_quote s i ≡ false → Answers before s i (no i)
+  pub not_opened : i ≤ length s → is_quote s i ≡ false → Answers before s i (Err (record { at = i }))
   unfolding is_closed
-  not_opened h e = record { state = before; ends = ends-here counts s i h (λ l. before-none (get_or s i 0) (quote-test s i l ∙ e)); whole = refl; len = λ e. not-both e refl }
+  not_opened h e = stops {y = before} (ends-here counts s i h (λ l. before-none (get_or s i 0) (quote-test s i l ∙ e))) refl

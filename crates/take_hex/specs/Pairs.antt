@@ -1,10 +1,11 @@
 -- Bytes in hexadecimal read digit by digit, by how many they are and not by which.
 -- Assumes nothing.
-use Rattle.std.specs.Prelude.{◌≡◌, Bool, true, false, List, ℕ, ◌+◌, ltb, leb, eqb, length, get_or}
+use Rattle.std.specs.Prelude.{◌≡◌, Bool, true, false, List, ℕ, ◌+◌, ltb, leb, eqb, length, get_or, Result, Ok, Err}
 use Rattle.std.proofs.Math.Option.{Option, none, some}
 use Rattle.wire.specs.Tests.{pick, both}
 use Rattle.desk.specs.Csv.{quote}
 use Rattle.spellings.specs.Accept.{Acceptor, when, is_digit}
+use Rattle.take_number.specs.declared.Stop.{Stop}
 use Rattle.take_number.specs.Scans.{Ends}
 use Rattle.take_text.specs.declared.Quoted.{Quoted}
 
@@ -35,9 +36,7 @@ is_closed (even n) = false
 is_closed (odd n) = false
 is_closed (closed n) = true
 
--- from a state at the place i on, what is answered
-pub record Answers (x : Pair) (s : List ℕ) (i : ℕ) (q : Quoted) : Type 0 where
-  pub state : Pair
-  pub ends : Ends counts x s i state q.at
-  pub whole : q.whole ≡ is_closed state
-  pub len : q.whole ≡ true → state ≡ closed q.len
+-- from a state at the place i on, what is answered: so many bytes up to a closing quote, or where they stop
+pub data Answers (x : Pair) (s : List ℕ) (i : ℕ) : Result Quoted Stop → Type 0 where
+  hexed : {n j : ℕ} → Ends counts x s i (closed n) j → Answers x s i (Ok (record { len = n; at = j }))
+  stops : {y : Pair} {j : ℕ} → Ends counts x s i y j → is_closed y ≡ false → Answers x s i (Err (record { at = j }))

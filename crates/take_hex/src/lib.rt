@@ -5,7 +5,10 @@
 ghost use Rattle.std.specs.Prelude.{◌≡◌, false, ◌≤◌, length};
 ghost use Rattle.take_hex.specs.Pairs.{is_hex, hex_at, before, even, Answers};
 
+use take_number::Stop;
 use take_text::Quoted;
+
+const QUOTE: u8 = b'"';
 
 // A hexadecimal digit, in lower case.
 fn is_digit(b: u8) -> bool
@@ -22,41 +25,23 @@ fn is_digit(b: u8) -> bool
 fn is_hex(row: &[u8], at: usize) -> bool
     ensures { result ≡ hex_at row.now at }
 {
-    if at < row.len() {
-        return is_digit(row[at]);
-    }
-    false
-}
-
-// The row stops at a place.
-fn stop(at: usize) -> Quoted
-    ensures { result ≡ record { whole = false; len = 0; at = at } }
-{
-    Quoted {
-        whole: false,
-        len: 0,
-        at,
-    }
+    at < row.len() && is_digit(row[at])
 }
 
 // What stands behind so many bytes, where no digit does.
-fn close(row: &[u8], at: usize, len: usize) -> Quoted
+fn close(row: &[u8], at: usize, len: usize) -> Result<Quoted, Stop>
     requires at_in_bounds { at ≤ length row.now }
     requires at_value { hex_at row.now at ≡ false }
     ensures { Answers (even len) row.now at result }
 {
-    if take_text::is_quote(row, at) {
-        return Quoted {
-            whole: true,
-            len,
-            at: at + 1,
-        };
+    if take_number::is_at(row, at, QUOTE) {
+        return Ok(Quoted { len, at: at + 1 });
     }
-    stop(at)
+    Err(Stop { at })
 }
 
 // All digits behind the first quote.
-fn inside(row: &[u8], from: usize) -> Quoted
+fn inside(row: &[u8], from: usize) -> Result<Quoted, Stop>
     requires { from ≤ length row.now }
     ensures { Answers (even 0) row.now from result }
 {
@@ -68,21 +53,21 @@ fn inside(row: &[u8], from: usize) -> Quoted
         }
         let next = at + 1;
         if !is_hex(row, next) {
-            return stop(next);
+            return Err(Stop { at: next });
         }
         at = next + 1;
         len = len + 1;
     }
-    stop(at)
+    Err(Stop { at })
 }
 
 // Bytes in hexadecimal.
-pub fn take_hex(row: &[u8], at: usize) -> Quoted
+pub fn take_hex(row: &[u8], at: usize) -> Result<Quoted, Stop>
     requires { at ≤ length row.now }
     ensures { Answers before row.now at result }
 {
-    if take_text::is_quote(row, at) {
+    if take_number::is_at(row, at, QUOTE) {
         return inside(row, at + 1);
     }
-    stop(at)
+    Err(Stop { at })
 }

@@ -1,7 +1,8 @@
 -- The steps of a number: its minus, its first digit, and the others.
 -- Assumes nothing.
+use Rattle.std.specs.Prelude.{Some, None, Ok, Err}
 use mathlib.Core.Path.{◌≡◌, refl, sym, ap, ◌∙◌}
-use mathlib.Core.Bool.{Bool, true, false}
+use mathlib.Core.Bool.{true, false}
 use mathlib.Core.List.{List}
 use mathlib.Core.Option.{none, some}
 use Prim.Native.Nat.{ℕ, ◌+◌, ◌-◌, ◌*◌, ◌/◌, ◌%◌, ◌^◌, ◌<◌, ◌≤◌}
@@ -11,23 +12,24 @@ use lib.ListN.{length, get_or}
 use borrow.Author.Tests.{lt-ltb, le-ltb, le-leb, lt-leb, eq-eqb, ne_eqb, leb-true, leb-false, ltb-true, eqb-true}
 use Rattle.wire.specs.Tests.{pick, both}
 use Rattle.wire.specs.Values.{number}
-use Rattle.laws.proofs.Splits.{by-test, not-both, both_yes, both_left, both_right}
+use Rattle.laws.proofs.Splits.{by-test, not-both, both_left, both_right}
 use Rattle.desk.specs.Csv.{minus}
 use Rattle.spellings.specs.Accept.{when, is_digit, Figure, nothing, minused, plus, under, another, first, figure_step, figure_value, numbers}
 use Rattle.spellings.specs.Exact.{neither, each, Beside}
 use Rattle.spellings.proofs.Numerals.{is_digit_lem}
-use Rattle.take_number.specs.declared.Number.{Number}
-use Rattle.take_number.specs.declared.Number.TheVariants.{Is, Stops}
-use Rattle.take_number.specs.Scans.{Ends, DigitAt, digit, no_digit, further_step, further, TakesNumber, takes, stops, TakesUnder, takes_under, stops_under}
+use Rattle.take_number.specs.declared.Stop.{Stop}
+use Rattle.take_number.specs.Number.{Number}
+use Rattle.take_number.specs.Number.{Is, Stops}
+use Rattle.take_number.specs.Scans.{is_at, Ends, DigitAt, digit, no_digit, FirstAt, begins, no_first, further_step, further, TakesNumber, takes, stops, TakesUnder, takes_under, stops_under}
 use Rattle.take_number.proofs.Scanning.{ends-here, ends_on, ends_as}
 
 -- ---- a digit
 
-pub digit-in : (s : List ℕ) (i : ℕ) → i < length s → 48 ≤ get_or s i 0 → get_or s i 0 ≤ 57 → DigitAt s i (get_or s i 0 - 48)
+pub digit-in : (s : List ℕ) (i : ℕ) → i < length s → 48 ≤ get_or s i 0 → get_or s i 0 ≤ 57 → DigitAt s i (Some (get_or s i 0 - 48))
 unfolding is_digit both
 digit-in s i h l m = digit h (rw (le-leb 48 (get_or s i 0) l, le-leb (get_or s i 0) 57 m))
 
-pub digit-out : (s : List ℕ) (i : ℕ) → (i < length s → 48 ≤ get_or s i 0 → get_or s i 0 ≤ 57 → ⊥) → DigitAt s i 10
+pub digit-out : (s : List ℕ) (i : ℕ) → (i < length s → 48 ≤ get_or s i 0 → get_or s i 0 ≤ 57 → ⊥) → DigitAt s i None
 unfolding is_digit
 digit-out s i h = no_digit (λ l. by-test (is_digit (get_or s i 0)) (λ e. let d = is_digit_lem (get_or s i 0) e in absurd (h l d.0 d.1)) (λ e. e))
 
@@ -38,13 +40,14 @@ pub record IsDigit (s : List ℕ) (i d : ℕ) : Type 0 where
   pub same : get_or s i 0 - 48 ≡ d
   pub large : 48 ≤ get_or s i 0
 
-pub a-digit : {s : List ℕ} {i d : ℕ} → DigitAt s i d → d ≤ 9 → IsDigit s i d
-a-digit {s} {i} (digit l e) h = record { there = l; is = e; same = refl; large = (is_digit_lem (get_or s i 0) e).0 }
-a-digit (no_digit e) h = absurd (omega arith)
+pub a-digit : {s : List ℕ} {i d : ℕ} → DigitAt s i (Some d) → IsDigit s i d
+a-digit {s} {i} (digit l e) = record { there = l; is = e; same = refl; large = (is_digit_lem (get_or s i 0) e).0 }
 
-pub no_digit_lem : {s : List ℕ} {i d : ℕ} → DigitAt s i d → 9 < d → i < length s → is_digit (get_or s i 0) ≡ false
-no_digit_lem {s} {i} (digit l e) h k = let m = is_digit_lem (get_or s i 0) e in absurd (omega (arith, m.1))
-no_digit_lem (no_digit e) h k = e k
+pub small-digit : {s : List ℕ} {i d : ℕ} → DigitAt s i (Some d) → d ≤ 9
+small-digit {s} {i} (digit l e) = let m = is_digit_lem (get_or s i 0) e in omega (arith, m.1)
+
+pub no_digit_lem : {s : List ℕ} {i : ℕ} → DigitAt s i None → i < length s → is_digit (get_or s i 0) ≡ false
+no_digit_lem (no_digit e) k = e k
 
 -- ---- digits behind a number
 
@@ -85,16 +88,16 @@ module _ {most first : ℕ} {s : List ℕ} {from x at : ℕ} (g : Going most fir
   pub going-zero : x ≤ 0 → Found
   going-zero h = stop (λ l. further-zero most x (get_or s at 0) h)
 
-  module _ {d : ℕ} (e : DigitAt s at d) where
-    pub going-none : 9 < d → Found
-    going-none h = stop (λ l. further-none most x (get_or s at 0) (no_digit_lem e h l))
+  pub going-none : DigitAt s at None → Found
+  going-none e = stop (λ l. further-none most x (get_or s at 0) (no_digit_lem e l))
 
-    pub going-large : d ≤ 9 → most < 10 * x + d → Found
-    going-large h k = stop (λ l. further-large most x (get_or s at 0) (omega (arith, k, (a-digit e h).same)))
+  module _ {d : ℕ} (e : DigitAt s at (Some d)) where
+    pub going-large : most < 10 * x + d → Found
+    going-large k = stop (λ l. further-large most x (get_or s at 0) (omega (arith, k, (a-digit e).same)))
 
-    pub going_on : d ≤ 9 → 0 < x → 10 * x + d ≤ most → Going most first s from (10 * x + d) (at + 1)
-    going_on h k m =
-        let a = a-digit e h in
+    pub going_on : 0 < x → 10 * x + d ≤ most → Going most first s from (10 * x + d) (at + 1)
+    going_on k m =
+        let a = a-digit e in
         record {
           finish = λ n. g.finish (ends_on (further most) s at a.there (further-some most x (get_or s at 0) a.is k (rw a.same m)) (rw a.same n));
           inside = omega (arith, a.there);
@@ -133,33 +136,33 @@ module _ (least most : ℕ) (f : ℕ → Figure) (b : ℕ) where
   unfolding first both when
   first_some e h k = rw (e, le-leb least (b - 48) h, le-leb (b - 48) most k)
 
+-- the first digit at a place
+module _ (least most : ℕ) (s : List ℕ) (i : ℕ) where
+  pub first-is : {d : ℕ} → DigitAt s i (Some d) → least ≤ d → d ≤ most → FirstAt least most s i (Ok d)
+  first-is e l m =
+      let a = a-digit e in
+      begins a.there (λ f. first_some least most f (get_or s i 0) a.is (omega (arith, a.same)) (omega (arith, a.same)) ∙ ap (λ d. some (f d)) a.same) l m
+
+  pub first-no : DigitAt s i None → FirstAt least most s i (Err (record { at = i }))
+  first-no e = no_first (λ l f. first-none least most f (get_or s i 0) (no_digit_lem e l))
+
+  pub first-below : {d : ℕ} → DigitAt s i (Some d) → d < least → FirstAt least most s i (Err (record { at = i }))
+  first-below e h = no_first (λ l f. first_small least most f (get_or s i 0) (omega (arith, (a-digit e).same)))
+
+  pub first-above : {d : ℕ} → DigitAt s i (Some d) → most < d → FirstAt least most s i (Err (record { at = i }))
+  first-above e h = no_first (λ l f. first-large least most f (get_or s i 0) (omega (arith, (a-digit e).same)))
+
 -- behind a minus
-module _ (below : ℕ) (s : List ℕ) (i : ℕ) (inside : i ≤ length s) {d : ℕ} (e : DigitAt s i d) where
-  under-stop : ((above : ℕ) → i < length s → figure_step below above minused (get_or s i 0) ≡ none) → TakesUnder below s i (Stops i)
-  unfolding figure_value
-  under-stop h = stops_under {x = minused} (λ above. ends-here (numbers below above) s i inside (h above)) refl
-
-  pub under_none : 9 < d → TakesUnder below s i (Stops i)
-  unfolding figure_step
-  under_none h = under-stop (λ above l. first-none 1 below under (get_or s i 0) (no_digit_lem e h l))
-
-  pub under-zero : d < 1 → TakesUnder below s i (Stops i)
-  unfolding figure_step
-  under-zero h = under-stop (λ above l. first_small 1 below under (get_or s i 0) (omega (arith, (a-digit e (omega arith)).same)))
-
-  pub under-large : d ≤ 9 → below < d → TakesUnder below s i (Stops i)
-  unfolding figure_step
-  under-large h k = under-stop (λ above l. first-large 1 below under (get_or s i 0) (omega (arith, (a-digit e h).same)))
-
-  pub under-taken : 1 ≤ d → d ≤ 9 → d ≤ below → {x j : ℕ} → Ends (further below) d s (i + 1) x j → (word : ℕ) → word ≡ 2 ^ 64 - x → TakesUnder below s i (Is word j)
+module _ (below : ℕ) (s : List ℕ) (i : ℕ) where
+  pub under-stops : {r : Stop} → i ≤ length s → FirstAt 1 below s i (Err r) → TakesUnder below s i (Err r)
   unfolding figure_step figure_value
-  under-taken l h k {x} n word w =
-      let a = a-digit e h in
+  under-stops inside (no_first h) = stops_under {x = minused} (λ above. ends-here (numbers below above) s i inside (λ l. h l under)) refl
+
+  pub under-taken : {d : ℕ} → FirstAt 1 below s i (Ok d) → {x j : ℕ} → Ends (further below) d s (i + 1) x j → (word : ℕ) → word ≡ 2 ^ 64 - x → TakesUnder below s i (Is word j)
+  unfolding figure_step figure_value
+  under-taken (begins there is l k) {x} n word w =
       takes_under {x = under x}
-      (λ above.
-      ends_on (numbers below above) s i a.there
-      (first_some 1 below under (get_or s i 0) a.is (omega (arith, a.same)) (omega (arith, a.same)) ∙ ap (λ d. some (under d)) a.same)
-      (ends_as (further below) (numbers below above) under (beside-under below above) n))
+      (λ above. ends_on (numbers below above) s i there (is under) (ends_as (further below) (numbers below above) under (beside-under below above) n))
       (ap (λ w. some (number w 0)) (sym w))
 
 -- in front
@@ -187,22 +190,20 @@ module _ (below above : ℕ) (s : List ℕ) (i : ℕ) (inside : i ≤ length s) 
   behind-minus l e h (takes_under n v) = takes (ends_on (numbers below above) s i l (minus-some (get_or s i 0) e h) (n above)) v
   behind-minus l e h (stops_under n v) = stops (ends_on (numbers below above) s i l (minus-some (get_or s i 0) e h) (n above)) v
 
-  module _ (other : i < length s → get_or s i 0 ≡ minus → ⊥) {d : ℕ} (e : DigitAt s i d) where
-    pub number-none : 9 < d → TakesNumber below above s i (Stops i)
-    number-none h = number-stop (λ l. plus_step (get_or s i 0) (other l) ∙ first-none 0 above plus (get_or s i 0) (no_digit_lem e h l))
+  module _ (other : i < length s → get_or s i 0 ≡ minus → ⊥) where
+    pub number-stops : {r : Stop} → FirstAt 0 above s i (Err r) → TakesNumber below above s i (Err r)
+    number-stops (no_first h) = number-stop (λ l. plus_step (get_or s i 0) (other l) ∙ h l plus)
 
-    pub number-large : d ≤ 9 → above < d → TakesNumber below above s i (Stops i)
-    number-large h k = number-stop (λ l. plus_step (get_or s i 0) (other l) ∙ first-large 0 above plus (get_or s i 0) (omega (arith, (a-digit e h).same)))
-
-    pub number-taken : d ≤ 9 → d ≤ above → {x j : ℕ} → Ends (further above) d s (i + 1) x j → TakesNumber below above s i (Is x j)
+    pub number-taken : {d : ℕ} → FirstAt 0 above s i (Ok d) → {x j : ℕ} → Ends (further above) d s (i + 1) x j → TakesNumber below above s i (Is x j)
     unfolding figure_value
-    number-taken h k {x} n =
-        let a = a-digit e h in
+    number-taken (begins there is l k) {x} n =
         takes {x = plus x}
-        (ends_on (numbers below above) s i a.there
-        (plus_step (get_or s i 0) (other a.there) ∙ first_some 0 above plus (get_or s i 0) a.is (omega arith) (omega (arith, a.same)) ∙ ap (λ d. some (plus d)) a.same)
-        (ends_as (further above) (numbers below above) plus (beside-plus below above) n))
+        (ends_on (numbers below above) s i there (plus_step (get_or s i 0) (other there) ∙ is plus) (ends_as (further above) (numbers below above) plus (beside-plus below above) n))
         refl
+
+-- the place behind a first digit is in the row
+pub first-there : {least most : ℕ} {s : List ℕ} {i d : ℕ} → FirstAt least most s i (Ok d) → (i < length s) × (d ≤ most) × (least ≤ d)
+first-there (begins there is l k) = (there, k, l)
 
 -- ---- one digit more
 
@@ -217,20 +218,19 @@ fits-same most x d h k =
     let e : x ≡ most / 10 = omega arith in
     by-test (leb d (most % 10)) (λ t. t ∙ sym (le-leb (10 * x + d) most (omega (arith, leb-true d (most % 10) t)))) (λ t. t ∙ sym (lt-leb (10 * x + d) most (omega (arith, leb-false d (most % 10) t))))
 
--- ---- a minus
+-- ---- a byte that is looked for
 
-pub minus-there : (s : List ℕ) (i : ℕ) {t : Bool} → t ≡ both (ltb i (length s)) (eqb (get_or s i 0) minus) → t ≡ true → (i < length s) × (get_or s i 0 ≡ minus)
-minus-there s i e f =
-    let h : both (ltb i (length s)) (eqb (get_or s i 0) minus) ≡ true = sym e ∙ f in
-    (ltb-true i (length s) (both_left _ _ h), eqb-true (get_or s i 0) minus (both_right (ltb i (length s)) _ h))
+pub at_there : (s : List ℕ) (i b : ℕ) → is_at s i b ≡ true → (i < length s) × (get_or s i 0 ≡ b)
+unfolding is_at
+at_there s i b h = (ltb-true i (length s) (both_left _ _ h), eqb-true (get_or s i 0) b (both_right (ltb i (length s)) _ h))
 
-pub minus-not : (s : List ℕ) (i : ℕ) {t : Bool} → t ≡ both (ltb i (length s)) (eqb (get_or s i 0) minus) → t ≡ false → i < length s → get_or s i 0 ≡ minus → ⊥
-minus-not s i e f h k = not-both (both_yes _ _ (lt-ltb i (length s) h) (eq-eqb (get_or s i 0) minus k)) (sym e ∙ f)
+pub at_test : (s : List ℕ) (i b : ℕ) → i < length s → eqb (get_or s i 0) b ≡ is_at s i b
+unfolding is_at both
+at_test s i b h = rw (lt-ltb i (length s) h)
 
-pub minus-test : (s : List ℕ) (i : ℕ) → i < length s → eqb (get_or s i 0) minus ≡ both (ltb i (length s)) (eqb (get_or s i 0) minus)
-unfolding both
-minus-test s i h = rw (lt-ltb i (length s) h)
+pub at-beyond : (s : List ℕ) (i b : ℕ) → length s ≤ i → false ≡ is_at s i b
+unfolding is_at both
+at-beyond s i b h = rw (le-ltb i (length s) h)
 
-pub minus-beyond : (s : List ℕ) (i : ℕ) → length s ≤ i → false ≡ both (ltb i (length s)) (eqb (get_or s i 0) minus)
-unfolding both
-minus-beyond s i h = rw (le-ltb i (length s) h)
+pub at-not : (s : List ℕ) (i b : ℕ) → is_at s i b ≡ false → i < length s → get_or s i 0 ≡ b → ⊥
+at-not s i b e h k = not-both (sym (at_test s i b h) ∙ eq-eqb (get_or s i 0) b k) e

@@ -1,12 +1,14 @@
 -- How far an acceptor goes from a place of a row on, as code finds it out.
 -- Assumes nothing.
-use Rattle.std.specs.Prelude.{◌≡◌, true, false, List, ℕ, ◌+◌, ◌-◌, ◌*◌, ◌<◌, ◌≤◌, ltb, leb, length, get_or, drop}
+use Rattle.std.specs.Prelude.{◌≡◌, Bool, true, false, List, ℕ, ◌+◌, ◌-◌, ◌*◌, ◌<◌, ◌≤◌, ltb, leb, eqb, length, get_or, drop, Some, None, Result, Ok, Err}
+use Rattle.std.specs.Prelude as code
 use Rattle.std.proofs.Math.Option.{Option, none, some}
 use Rattle.wire.specs.Tests.{both}
 use Rattle.wire.specs.Values.{number}
-use Rattle.spellings.specs.Accept.{Acceptor, when, is_digit, Figure, nothing, minused, figure_value, numbers, scan}
-use Rattle.take_number.specs.declared.Number.{Number}
-use Rattle.take_number.specs.declared.Number.TheVariants.{Is, Stops}
+use Rattle.spellings.specs.Accept.{Acceptor, when, is_digit, first, Figure, nothing, minused, figure_value, numbers, scan}
+use Rattle.take_number.specs.declared.Stop.{Stop}
+use Rattle.take_number.specs.Number.{Number}
+use Rattle.take_number.specs.Number.{Is, Stops}
 
 -- from the state x at the place i it goes to the state y at the place j, and no further
 pub record Ends (A : Acceptor) (x : A.State) (s : List ℕ) (i : ℕ) (y : A.State) (j : ℕ) : Type 0 where
@@ -15,10 +17,19 @@ pub record Ends (A : Acceptor) (x : A.State) (s : List ℕ) (i : ℕ) (y : A.Sta
   pub left : (scan A x (drop i s)).left ≡ drop j s
   pub inside : j ≤ length s
 
+-- a byte stands at a place
+unfoldable pub is_at : List ℕ → ℕ → ℕ → Bool
+is_at s i b = both (ltb i (length s)) (eqb (get_or s i 0) b)
+
 -- the digit at a place, or that there is none
-pub data DigitAt (s : List ℕ) (i : ℕ) : ℕ → Type 0 where
-  digit : i < length s → is_digit (get_or s i 0) ≡ true → DigitAt s i (get_or s i 0 - 48)
-  no_digit : (i < length s → is_digit (get_or s i 0) ≡ false) → DigitAt s i 10
+pub data DigitAt (s : List ℕ) (i : ℕ) : code.Option ℕ → Type 0 where
+  digit : i < length s → is_digit (get_or s i 0) ≡ true → DigitAt s i (Some (get_or s i 0 - 48))
+  no_digit : (i < length s → is_digit (get_or s i 0) ≡ false) → DigitAt s i None
+
+-- the first digit of a number at a place, or that there is none
+pub data FirstAt (least most : ℕ) (s : List ℕ) (i : ℕ) : Result ℕ Stop → Type 0 where
+  begins : {d : ℕ} → i < length s → ((f : ℕ → Figure) → first least most f (get_or s i 0) ≡ some (f d)) → least ≤ d → d ≤ most → FirstAt least most s i (Ok d)
+  no_first : (i < length s → (f : ℕ → Figure) → first least most f (get_or s i 0) ≡ none) → FirstAt least most s i (Err (record { at = i }))
 
 -- goes through further digits of a number: none behind a zero, and none beyond the most
 unfoldable pub further_step : (most : ℕ) → ℕ → ℕ → Option ℕ

@@ -1,52 +1,62 @@
 // A number of a CSV row, from a place of the row on: its word and the place behind it, or the first byte with which no number goes on.
 #![tactic(auto)]
 
-ghost use Rattle.std.specs.Prelude.{◌≡◌, ◌+◌, ◌*◌, ◌<◌, ◌≤◌, length, get_or, ltb, leb, eqb};
-ghost use Rattle.wire.specs.Tests.{both};
-ghost use Rattle.desk.specs.Csv.{minus};
-ghost use Rattle.take_number.specs.Scans.{DigitAt, Ends, further, TakesNumber, TakesUnder};
+ghost use Rattle.std.specs.Prelude.{◌≡◌, ◌+◌, ◌*◌, ◌<◌, ◌≤◌, length, leb};
+ghost use Rattle.desk.specs.declared.NotRows.TheVariants.{NoRow};
+ghost use Rattle.take_number.specs.Scans.{is_at, DigitAt, FirstAt, Ends, further, TakesNumber, TakesUnder};
 
-const LARGEST: u64 = 0xffff_ffff_ffff_ffff;
+use desk::NotRows;
 
-// A number's word and the place behind it, or where the row stops being one.
+// A number that was read, and the place behind it.
 #[derive(Clone, Copy)]
-pub enum Number {
-    Is { word: u64, at: usize },
-    Stops { at: usize },
-}
-
-// A number's size and the place behind its digits.
-#[derive(Clone, Copy)]
-pub struct Digits {
-    pub size: u64,
+pub struct Numeral {
+    pub word: u64,
     pub at: usize,
 }
 
-// The digit at a place, or 10 where none is.
-fn digit(row: &[u8], at: usize) -> u64
-    ensures { DigitAt row.now at result }
-{
-    if row.len() <= at {
-        return 10;
-    }
-    let b = row[at] as u64;
-    if b < 48 {
-        return 10;
-    }
-    if 57 < b {
-        return 10;
-    }
-    b - 48
+// Where an input stops being what is read of it.
+#[derive(Clone, Copy)]
+pub struct Stop {
+    pub at: usize,
 }
 
-// Whether a minus stands at a place.
-fn is_minus(row: &[u8], at: usize) -> bool
-    ensures { result ≡ both (ltb at (length row.now)) (eqb (get_or row.now at 0) minus) }
-{
-    if at < row.len() {
-        return row[at] == b'-';
+// Where a whole input stops is where it stops being a row.
+impl From<Stop> for NotRows {
+    ghost from_gives = { λ s e. e ≡ NoRow s.at };
+
+    fn from(s: Stop) -> NotRows {
+        NotRows::NoRow { place: s.at }
     }
-    false
+}
+
+const LARGEST: u64 = 0xffff_ffff_ffff_ffff;
+
+// Whether a byte stands at a place.
+pub fn is_at(row: &[u8], at: usize, b: u8) -> bool
+    ensures { result ≡ is_at row.now at b }
+{
+    at < row.len() && row[at] == b
+}
+
+// The digit at a place.
+fn digit(row: &[u8], at: usize) -> Option<u64>
+    ensures { DigitAt row.now at result }
+{
+    let b = *row.get(at)?;
+    match b {
+        b'0'..=b'9' => Some((b - b'0') as u64),
+        _ => None,
+    }
+}
+
+// A number's first digit, from the least to the most.
+fn first_digit(least: u64, most: u64, row: &[u8], at: usize) -> Result<u64, Stop>
+    ensures { FirstAt least most row.now at result }
+{
+    match digit(row, at) {
+        Some(d) if least <= d && d <= most => Ok(d),
+        _ => Err(Stop { at }),
+    }
 }
 
 // Whether a number with one digit more is at most so large.
@@ -65,69 +75,48 @@ fn fits(most: u64, x: u64, d: u64) -> bool
 }
 
 // The digits behind a number's first one.
-fn take_digits(most: u64, first: u64, row: &[u8], from: usize) -> Digits
+fn take_digits(most: u64, first: u64, row: &[u8], from: usize) -> Numeral
     requires { (first ≤ most) × (from ≤ length row.now) }
-    ensures { Ends (further most) first row.now from result.size result.at × (result.size ≤ most) × (first ≤ result.size) }
+    ensures { Ends (further most) first row.now from result.word result.at × (result.word ≤ most) × (first ≤ result.word) }
 {
     let mut x = first;
     let mut at = from;
     while 0 < x {
-        let d = digit(row, at);
-        if 9 < d {
-            return Digits { size: x, at };
+        match digit(row, at) {
+            Some(d) if fits(most, x, d) => {
+                x = 10 * x + d;
+                at = at + 1;
+            }
+            _ => break,
         }
-        if !fits(most, x, d) {
-            return Digits { size: x, at };
-        }
-        x = 10 * x + d;
-        at = at + 1;
     }
-    Digits { size: x, at }
+    Numeral { word: x, at }
 }
 
 // A number below zero, behind its minus.
-fn take_under(below: u64, row: &[u8], at: usize) -> Number
+fn take_under(below: u64, row: &[u8], at: usize) -> Result<Numeral, Stop>
     requires { at ≤ length row.now }
     ensures { TakesUnder below row.now at result }
 {
-    let d = digit(row, at);
-    if d < 1 {
-        return Number::Stops { at };
-    }
-    if 9 < d {
-        return Number::Stops { at };
-    }
-    if below < d {
-        return Number::Stops { at };
-    }
-    let got = take_digits(below, d, row, at + 1);
-    Number::Is {
-        word: LARGEST - got.size + 1,
-        at: got.at,
-    }
+    let d = first_digit(1, below, row, at)?;
+    let size = take_digits(below, d, row, at + 1);
+    Ok(Numeral {
+        word: LARGEST - size.word + 1,
+        at: size.at,
+    })
 }
 
 // A number from so many below zero to so many above it.
-pub fn take_number(below: u64, above: u64, row: &[u8], at: usize) -> Number
+pub fn take_number(below: u64, above: u64, row: &[u8], at: usize) -> Result<Numeral, Stop>
     requires { at ≤ length row.now }
     ensures { TakesNumber below above row.now at result }
 {
-    if is_minus(row, at) {
+    if is_at(row, at, b'-') {
         if 0 < below {
             return take_under(below, row, at + 1);
         }
-        return Number::Stops { at };
+        return Err(Stop { at });
     }
-    let d = digit(row, at);
-    if 9 < d {
-        return Number::Stops { at };
-    }
-    if above < d {
-        return Number::Stops { at };
-    }
-    let got = take_digits(above, d, row, at + 1);
-    Number::Is {
-        word: got.size,
-        at: got.at,
-    }
+    let d = first_digit(0, above, row, at)?;
+    Ok(take_digits(above, d, row, at + 1))
 }

@@ -1,54 +1,40 @@
 -- A row taken field by field: what is laid and what is left to take are all of it.
 -- Assumes nothing.
+use Rattle.std.specs.Prelude.{Ok, Err}
 use mathlib.Core.Path.{◌≡◌, refl, sym, ap, ◌∙◌}
 use mathlib.Core.Bool.{Bool, true, false}
 use mathlib.Core.List.{List, [], ◌∷◌, ◌++◌, append_assoc}
 use mathlib.Core.Option.{none, some, some-injective}
-use Prim.Native.Nat.{ℕ, zero, suc, ◌+◌, ◌-◌, ◌<◌, ◌≤◌, ◌^◌}
+use Prim.Native.Nat.{ℕ, zero, suc, ◌+◌, ◌-◌, ◌*◌, ◌<◌, ◌≤◌, ◌^◌}
 use native.Mathlib.Omega.{arith}
-use lib.Dec.{ltb, eqb}
+use lib.Dec.{eqb}
 use lib.ListN.{length, get_or, drop, drop_of_length-le}
-use borrow.Author.Tests.{ltb-true, eqb-true, lt-ltb, le-ltb, eq-eqb}
+use borrow.Author.Tests.{eq-eqb, ne_eqb}
 use Rattle.wire.specs.declared.Layout.{Layout}
-use Rattle.wire.specs.Tests.{given, both}
+use Rattle.wire.specs.Tests.{given}
 use Rattle.wire.specs.Table.{u16_at, kind_of, node_at, record_of, shapes_at}
 use Rattle.wire.specs.Values.{Value}
 use Rattle.laws.specs.Tables.{GoodTable}
 use Rattle.laws.proofs.Parts.{next}
-use Rattle.laws.proofs.Splits.{by-lt, both_left, both_right}
+use Rattle.laws.proofs.Splits.{by-lt}
 use Rattle.table.proofs.Stretches.{falls-first}
 use Rattle.desk.specs.Csv.{comma, Style, style_of, Column, columns, styles_of, value_bytes, message_of}
 use Rattle.spellings.specs.Accept.{scan, acceptor, Parsed, took, stopped, past, with_value, must, finished, field_then, parse_field, parse_later, parse}
 use Rattle.columns.specs.Columns.{field_shapes, Rowed}
 use Rattle.spellings.proofs.Tables.{Column-more, column-more}
 use Rattle.columns.proofs.Rows.{columned}
-use Rattle.columns.proofs.Styled.{node-kind, rowed-next}
+use Rattle.columns.proofs.Styled.{node-kind, rowed-next, at_first, at_next}
 use Rattle.put_number.specs.Lays.{Lays}
 use Rattle.put_number.proofs.Laying.{lays-puts, lays-both}
 use Rattle.output.specs.Bytes.{cap}
 use Rattle.output.proofs.Counting.{cap-small, cap-large, puts_none}
-use Rattle.take_number.specs.Scans.{Ends}
-use Rattle.take_field.specs.declared.Field.{Field}
-use Rattle.take_field.specs.declared.Field.TheVariants as field
+use Rattle.take_number.specs.declared.Stop.{Stop}
+use Rattle.take_number.specs.Scans.{is_at, Ends}
+use Rattle.take_number.proofs.Figures.{at_there, at_test}
+use Rattle.take_field.specs.Field as field
 use Rattle.take_field.specs.Taking.{Takes, TakesKind}
 use Rattle.take_field.specs.Taking as taking
-use Rattle.take_row.specs.declared.Message.{Message}
-use Rattle.take_row.specs.declared.Message.TheVariants.{Stops}
-use Rattle.take_row.specs.Messages.{Taken, gives, stops_at, taken_of, taken_by, LaysMessage, laid, refused, is_at, Separated, begins, behind_comma, no_comma, Ended, ends, no_return, no_feed, goes_on}
-
--- ---- bytes
-
-pub at_test : (s : List ℕ) (i b : ℕ) → i < length s → eqb (get_or s i 0) b ≡ is_at s i b
-unfolding is_at both
-at_test s i b h = rw (lt-ltb i (length s) h)
-
-pub at-beyond : (s : List ℕ) (i b : ℕ) → length s ≤ i → false ≡ is_at s i b
-unfolding is_at both
-at-beyond s i b h = rw (le-ltb i (length s) h)
-
-pub at_there : (s : List ℕ) (i b : ℕ) → is_at s i b ≡ true → (i < length s) × (get_or s i 0 ≡ b)
-unfolding is_at
-at_there s i b h = (ltb-true i (length s) (both_left _ _ h), eqb-true (get_or s i 0) b (both_right (ltb i (length s)) _ h))
+use Rattle.take_row.specs.Messages.{Taken, gives, stops_at, taken_of, taken_by, LaysMessage, laid, refused, Separated, begins, behind_comma, no_comma, Ended, ends, no_return, no_feed, goes_on}
 
 -- ---- what is taken, from a place on
 
@@ -138,19 +124,19 @@ row-end true s i = refl
 row-end false s i = refl
 
 module _ (s : List ℕ) (i : ℕ) where
-  ended : {n : ℕ} {m : Message} → (t : Taken) → t ≡ shifted i (taken_of [] (must 13 (must 10 finished) (drop i s))) → Ended s i n m → {u : ℕ} {out : List ℕ} → Lays [] u out n out → LaysMessage t u out m out
+  stopped-end : {r : Stop} → Ended s i (Err r) → shifted i (taken_of [] (must 13 (must 10 finished) (drop i s))) ≡ stops_at r.at
+  unfolding taken_of shifted finished
+  stopped-end (no_return h) = ap (λ p. shifted i (taken_of [] p)) (must-stop 13 _ s i h) ∙ ap stops_at (omega arith)
+  stopped-end (no_feed h k) = ap (λ p. shifted i (taken_of [] p)) (must-step 13 _ s i h ∙ ap (past 1) (must-stop 10 _ s (i + 1) k)) ∙ past-shifted [] i 1 (stopped 0) ∙ ap stops_at (omega arith)
+  stopped-end (goes_on h k m) =
+      ap (λ p. shifted i (taken_of [] p)) (must-step 13 _ s i h ∙ ap (past 1) (must-step 10 _ s (i + 1) k ∙ ap (λ r. past 1 (finished r)) (next s (i + 1 + 1) (omega arith))))
+      ∙ past-shifted [] i 1 (past 1 (stopped 0)) ∙ past-shifted [] (i + 1) 1 (stopped 0) ∙ ap stops_at (omega arith)
+
+  whole-end : {u : Unit {0}} → Ended s i (Ok u) → shifted i (taken_of [] (must 13 (must 10 finished) (drop i s))) ≡ gives []
   unfolding taken_of shifted message_of finished
-  ended t e (no_return h) l = refused {p = i} (e ∙ ap (λ p. shifted i (taken_of [] p)) (must-stop 13 _ s i h) ∙ ap stops_at (omega arith)) refl
-  ended t e (no_feed h k) l =
-      refused {p = i + 1} (e ∙ ap (λ p. shifted i (taken_of [] p)) (must-step 13 _ s i h ∙ ap (past 1) (must-stop 10 _ s (i + 1) k)) ∙ past-shifted [] i 1 (stopped 0) ∙ ap stops_at (omega arith)) refl
-  ended t e (goes_on h k m) l =
-      refused {p = i + 1 + 1}
-      (e ∙ ap (λ p. shifted i (taken_of [] p)) (must-step 13 _ s i h ∙ ap (past 1) (must-step 10 _ s (i + 1) k ∙ ap (λ r. past 1 (finished r)) (next s (i + 1 + 1) (omega arith))))
-      ∙ past-shifted [] i 1 (past 1 (stopped 0)) ∙ past-shifted [] (i + 1) 1 (stopped 0) ∙ ap stops_at (omega arith)) refl
-  ended t e (ends h k m) l =
-      laid {s = []}
-      (e ∙ ap (λ p. shifted i (taken_of [] p)) (must-step 13 _ s i h ∙ ap (past 1) (must-step 10 _ s (i + 1) k ∙ ap (λ r. past 1 (finished r)) (drop_of_length-le s {i = i + 1 + 1} (omega arith))))
-      ∙ past-shifted [] i 1 (past 1 (took [])) ∙ past-shifted [] (i + 1) 1 (took [])) l
+  whole-end (ends h k m) =
+      ap (λ p. shifted i (taken_of [] p)) (must-step 13 _ s i h ∙ ap (past 1) (must-step 10 _ s (i + 1) k ∙ ap (λ r. past 1 (finished r)) (drop_of_length-le s {i = i + 1 + 1} (omega arith))))
+      ∙ past-shifted [] i 1 (past 1 (took [])) ∙ past-shifted [] (i + 1) 1 (took [])
 
 cap-below : (n : ℕ) → cap n < 2 ^ 64
 cap-below n = by-lt n (2 ^ 64) (λ h. omega (arith, cap-small n h)) (λ h. omega (arith, cap-large n h))
@@ -183,18 +169,6 @@ going-begin {s} input {l} {from} {width} out small r =
       lays = lays-puts (puts_none 0 out (omega arith));
     }
 
--- where a field begins, or that none does
-no-comma : {first : Bool} {s : List ℕ} {i p : ℕ} {r : Field} → Separated first s i r → r ≡ field.Stops p → (first ≡ false) × (is_at s i comma ≡ false) × (p ≡ i)
-no-comma (begins w) q = let z : ◌≡◌ {A = ℕ} 0 1 = cc in absurd (omega arith)
-no-comma (behind_comma w h) q = let z : ◌≡◌ {A = ℕ} 0 1 = cc in absurd (omega arith)
-no-comma {i = i} {p = p} (no_comma w h) q = let e : i ≡ p = cc in (w, h, sym e)
-
-by-start : {first : Bool} {s : List ℕ} {i start z : ℕ} {r : Field} {X : Type 0} → Separated first s i r → r ≡ field.Took start z
-    → (first ≡ true → start ≡ i → X) → (first ≡ false → is_at s i comma ≡ true → start ≡ i + 1 → X) → X
-by-start {i = i} {start = start} (begins w) q f g = let e : i ≡ start = cc in f w (sym e)
-by-start {i = i} {start = start} (behind_comma w h) q f g = let e : i + 1 ≡ start = cc in g w h (sym e)
-by-start (no_comma w h) q f g = let z : ◌≡◌ {A = ℕ} 0 1 = cc in absurd (omega arith)
-
 -- the first column and the others
 split-columns : (s : List ℕ) (l : Layout) (child left n : ℕ) (cs : List Column) → GoodTable s l → 0 < left → u16_at s child < l.nodes → n ≡ (node_at s (record_of l (u16_at s child))).number
     → columns (field_shapes s l child left) ≡ some cs → Column-more (kind_of n) (style_of (kind_of n)) (columns (field_shapes s l (child + 2) (left - 1))) cs
@@ -213,19 +187,20 @@ module _ {s input : List ℕ} {l : Layout} {from width : ℕ} {before : List ℕ
   abbrev whole : Taken
   whole = taken_by (columns (field_shapes s l from width)) input
 
-  pub going_end : {m : Message} → left ≤ 0 → Ended input at to m → LaysMessage whole 0 before m out
-  unfolding after
-  going_end {m} h e = go m (ended input at (rest first g.cs input at) there e (lays-puts (puts_none to out fits)))
-    where
-      there : rest first g.cs input at ≡ shifted at (taken_of [] (must 13 (must 10 finished) (drop at input)))
-      there = ap (λ cs. rest first cs input at) (no-columns s l child left g.cs h g.are) ∙ row-end first input at
+  module _ (h : left ≤ 0) where
+    at-end : rest first g.cs input at ≡ shifted at (taken_of [] (must 13 (must 10 finished) (drop at input)))
+    at-end = ap (λ cs. rest first cs input at) (no-columns s l child left g.cs h g.are) ∙ row-end first input at
 
-      fits : to < 2 ^ 64
-      fits = omega (arith, g.lays.counted, cap-below (0 + length g.done))
+    pub going-cut : {r : Stop} → Ended input at (Err r) → LaysMessage whole 0 before (Err r) out
+    unfolding after
+    going-cut e = refused (g.same ∙ ap (after g.done) (at-end ∙ stopped-end input at e)) g.lays.long
 
-      go : (m : Message) → LaysMessage (rest first g.cs input at) to out m out → LaysMessage whole 0 before m out
-      go m (laid {s = t} e k) = laid (g.same ∙ ap (after g.done) e) (lays-both g.small g.lays k)
-      go m (refused e k) = refused (g.same ∙ ap (after g.done) e) (k ∙ g.lays.long)
+    pub going_end : {u : Unit {0}} → Ended input at (Ok u) → LaysMessage whole 0 before (Ok to) out
+    unfolding after
+    going_end e = laid (g.same ∙ ap (after g.done) (at-end ∙ whole-end input at e)) (lays-both g.small g.lays (lays-puts (puts_none to out fits)))
+      where
+        fits : to < 2 ^ 64
+        fits = omega (arith, g.lays.counted, cap-below (0 + length g.done))
 
   module _ (h : 0 < left) {c n : ℕ} (e : c ≡ u16_at s child) (f : n ≡ (node_at s (record_of l c)).number) where
     pub split : Column-more (kind_of n) (style_of (kind_of n)) (columns (field_shapes s l (child + 2) (left - 1))) g.cs
@@ -237,35 +212,32 @@ module _ {s input : List ℕ} {l : Layout} {from width : ℕ} {before : List ℕ
     as-column : rest first g.cs input at ≡ rest first (column ∷ split.rest) input at
     as-column = ap (λ cs. rest first cs input at) split.all
 
-    pub going-no-comma : {p : ℕ} {r : Field} → Separated first input at r → r ≡ field.Stops p → LaysMessage whole 0 before (Stops p) out
+    pub going-no-comma : {r : Stop} → Separated first input at (Err r) → LaysMessage whole 0 before (Err r) out
     unfolding after
-    going-no-comma {p} x q =
-        let k = no-comma x q in
-        let told : whole ≡ stops_at p
-        = g.same ∙ ap (after g.done) (as-column ∙ ap (λ b. rest b (column ∷ split.rest) input at) k.0 ∙ no_field column split.rest input at k.1 ∙ ap stops_at (sym k.2)) in
+    going-no-comma (no_comma w k) =
+        let told : whole ≡ stops_at at
+        = g.same ∙ ap (after g.done) (as-column ∙ ap (λ b. rest b (column ∷ split.rest) input at) w ∙ no_field column split.rest input at k) in
         refused told g.lays.long
 
     pub record Begun (start : ℕ) : Type 0 where
       pub is : rest first g.cs input at ≡ field_from column split.rest input start
       pub inside : start ≤ length input
 
-    pub going-begun : {start z : ℕ} {r : Field} → Separated first input at r → r ≡ field.Took start z → Begun start
-    going-begun {start} x q =
-        by-start x q
-        (λ w e. rw e (record { is = as-column ∙ ap (λ b. rest b (column ∷ split.rest) input at) w ∙ first_field column split.rest input at; inside = g.inside }))
-        (λ w i e. rw e
-        (record { is = as-column ∙ ap (λ b. rest b (column ∷ split.rest) input at) w ∙ later-field column split.rest input at i; inside = omega (arith, (at_there input at comma i).0) }))
+    pub going-begun : {start : ℕ} → Separated first input at (Ok start) → Begun start
+    going-begun (begins w) = record { is = as-column ∙ ap (λ b. rest b (column ∷ split.rest) input at) w ∙ first_field column split.rest input at; inside = g.inside }
+    going-begun (behind_comma w i) =
+        record { is = as-column ∙ ap (λ b. rest b (column ∷ split.rest) input at) w ∙ later-field column split.rest input at i; inside = omega (arith, (at_there input at comma i).0) }
 
-    module _ {start : ℕ} (b : Begun start) {r : Field} {now : List ℕ} (t : TakesKind (kind_of n) input start to out r now) where
-      pub going-stops : {j : ℕ} → r ≡ field.Stops j → LaysMessage whole 0 before (Stops j) now
+    module _ {start : ℕ} (b : Begun start) {now : List ℕ} where
+      pub going-stops : {r : Stop} → TakesKind (kind_of n) input start to out (Err r) now → LaysMessage whole 0 before (Err r) now
       unfolding after
-      going-stops {j} q = go (rw q at (t.of split.style split.is))
+      going-stops {r} t = go (t.of split.style split.is)
         where
-          go : Takes split.style (kind_of n) input start to out (field.Stops j) now → LaysMessage whole 0 before (Stops j) now
+          go : Takes split.style (kind_of n) input start to out (Err r) now → LaysMessage whole 0 before (Err r) now
           go (taking.stops y v k) = refused (g.same ∙ ap (after g.done) (b.is ∙ field-part column split.rest input y v)) (k ∙ g.lays.long)
 
-      pub going_next : {j len : ℕ} → r ≡ field.Took j len → Going s input l from width before false (child + 2) (left - 1) j len now
-      going_next {j} {len} q = go (rw q at (t.of split.style split.is))
+      pub going_next : {j len : ℕ} → TakesKind (kind_of n) input start to out (field.Took j len) now → Going s input l from width before false (child + 2) (left - 1) j len now
+      going_next {j} {len} t = go (t.of split.style split.is)
         where
           go : Takes split.style (kind_of n) input start to out (field.Took j len) now → Going s input l from width before false (child + 2) (left - 1) j len now
           go (taking.took {v = v} y w k) =
@@ -279,3 +251,15 @@ module _ {s input : List ℕ} {l : Layout} {from width : ℕ} {before : List ℕ
                 same = g.same ∙ ap (after g.done) (b.is ∙ field-whole column split.rest input y w) ∙ after-after g.done (value_bytes (kind_of n) v) _;
                 lays = lays-both g.small g.lays k;
               }
+
+-- the same in front of the i-th field
+module _ (s input : List ℕ) (l : Layout) (from width : ℕ) (before : List ℕ) where
+  abbrev pub GoingAt : (i at to : ℕ) → List ℕ → Type 0
+  GoingAt i at to out = Going s input l from width before (eqb i 0) (from + 2 * i) (width - i) at to out
+
+  pub going-at-first : {out : List ℕ} → Going s input l from width before true from width 0 0 out → GoingAt 0 0 0 out
+  going-at-first {out} g = at_first (λ child left. Going s input l from width before (eqb 0 0) child left 0 0 out) from width g
+
+  pub going-at-next : (i : ℕ) {at to : ℕ} {out : List ℕ} → Going s input l from width before false (from + 2 * i + 2) (width - i - 1) at to out → GoingAt (i + 1) at to out
+  going-at-next i {at} {to} {out} g =
+      rw (ne_eqb (i + 1) 0 (λ e. omega arith)) (at_next (λ child left. Going s input l from width before false child left at to out) from width i g)

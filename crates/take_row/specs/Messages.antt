@@ -1,16 +1,14 @@
 -- The message of a row, and what is laid of it in a lent output.
 -- Assumes nothing.
-use Rattle.std.specs.Prelude.{◌≡◌, Bool, true, false, List, ℕ, ◌+◌, ◌<◌, ◌≤◌, ltb, eqb, length, get_or}
+use Rattle.std.specs.Prelude.{◌≡◌, Bool, true, false, List, ℕ, ◌+◌, ◌<◌, ◌≤◌, length, Result, Ok, Err}
 use Rattle.std.proofs.Math.Option.{Option, none, some}
-use Rattle.wire.specs.Tests.{both}
 use Rattle.desk.specs.Csv.{comma, Column, styles_of, message_of}
 use Rattle.spellings.specs.Accept.{Parsed, took, stopped, parse}
 use Rattle.put_number.specs.Lays.{Lays}
-use Rattle.take_field.specs.declared.Field.{Field}
-use Rattle.take_field.specs.declared.Field.TheVariants.{Took}
-use Rattle.take_field.specs.declared.Field.TheVariants as field
-use Rattle.take_row.specs.declared.Message.{Message}
-use Rattle.take_row.specs.declared.Message.TheVariants.{Laid, Stops}
+use Rattle.take_number.specs.declared.Stop.{Stop}
+use Rattle.take_number.specs.Scans.{is_at}
+use Rattle.take_row.specs.Message.{Message}
+use Rattle.take_row.specs.Message.{Laid, Stops}
 
 -- the bytes of a message, or where the input stops being a row
 pub data Taken : Type 0 where
@@ -31,19 +29,15 @@ pub data LaysMessage (t : Taken) (u : ℕ) (out : List ℕ) : Message → List �
   laid : {s : List ℕ} {n : ℕ} {after : List ℕ} → t ≡ gives s → Lays s u out n after → LaysMessage t u out (Laid n) after
   refused : {p : ℕ} {after : List ℕ} → t ≡ stops_at p → length after ≡ length out → LaysMessage t u out (Stops p) after
 
--- a byte stands at a place
-unfoldable pub is_at : List ℕ → ℕ → ℕ → Bool
-is_at s i b = both (ltb i (length s)) (eqb (get_or s i 0) b)
-
 -- where the next field begins: there, or behind a comma that must stand there
-pub data Separated (first : Bool) (s : List ℕ) (i : ℕ) : Field → Type 0 where
-  begins : first ≡ true → Separated first s i (Took i 0)
-  behind_comma : first ≡ false → is_at s i comma ≡ true → Separated first s i (Took (i + 1) 0)
-  no_comma : first ≡ false → is_at s i comma ≡ false → Separated first s i (field.Stops i)
+pub data Separated (first : Bool) (s : List ℕ) (i : ℕ) : Result ℕ Stop → Type 0 where
+  begins : first ≡ true → Separated first s i (Ok i)
+  behind_comma : first ≡ false → is_at s i comma ≡ true → Separated first s i (Ok (i + 1))
+  no_comma : first ≡ false → is_at s i comma ≡ false → Separated first s i (Err (record { at = i }))
 
 -- the line's end, and nothing more
-pub data Ended (s : List ℕ) (i n : ℕ) : Message → Type 0 where
-  ends : is_at s i 13 ≡ true → is_at s (i + 1) 10 ≡ true → length s ≤ i + 2 → Ended s i n (Laid n)
-  no_return : is_at s i 13 ≡ false → Ended s i n (Stops i)
-  no_feed : is_at s i 13 ≡ true → is_at s (i + 1) 10 ≡ false → Ended s i n (Stops (i + 1))
-  goes_on : is_at s i 13 ≡ true → is_at s (i + 1) 10 ≡ true → i + 2 < length s → Ended s i n (Stops (i + 1 + 1))
+pub data Ended (s : List ℕ) (i : ℕ) : Result (Unit {0}) Stop → Type 0 where
+  ends : is_at s i 13 ≡ true → is_at s (i + 1) 10 ≡ true → length s ≤ i + 2 → Ended s i (Ok tt)
+  no_return : is_at s i 13 ≡ false → Ended s i (Err (record { at = i }))
+  no_feed : is_at s i 13 ≡ true → is_at s (i + 1) 10 ≡ false → Ended s i (Err (record { at = i + 1 }))
+  goes_on : is_at s i 13 ≡ true → is_at s (i + 1) 10 ≡ true → i + 2 < length s → Ended s i (Err (record { at = i + 1 + 1 }))

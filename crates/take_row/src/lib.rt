@@ -2,106 +2,66 @@
 // with which no row goes on.
 #![tactic(auto)]
 
-ghost use Rattle.std.specs.Prelude.{◌≡◌, true, ◌≤◌, length};
+ghost use Rattle.std.specs.Prelude.{◌≤◌, length};
 ghost use Rattle.desk.specs.Csv.{columns};
 ghost use Rattle.columns.specs.Columns.{field_shapes, Rowed};
-ghost use Rattle.take_row.specs.Messages.{taken_by, is_at, LaysMessage, Separated, Ended};
+ghost use Rattle.take_row.specs.Messages.{taken_by, LaysMessage, Separated, Ended};
 
-use take_field::Field;
+use columns::Columns;
+use take_field::Took;
+use take_number::{Stop, is_at};
 use wire::Layout;
 
-// So many bytes are laid; or where the row stops.
-#[derive(Clone, Copy)]
-pub enum Message {
-    Laid { len: usize },
-    Stops { at: usize },
-}
-
-// Whether a byte stands at a place.
-fn is_at(row: &[u8], at: usize, b: u8) -> bool
-    ensures { result ≡ is_at row.now at b }
-{
-    if at < row.len() {
-        return row[at] == b;
-    }
-    false
-}
-
 // The place where the next field begins: behind its comma, where it isn't the first.
-fn start_of(first: bool, row: &[u8], at: usize) -> Field
+fn start_of(first: bool, row: &[u8], at: usize) -> Result<usize, Stop>
     requires { at ≤ length row.now }
     ensures { Separated first row.now at result }
 {
     if first {
-        return Field::Took { at, len: 0 };
+        return Ok(at);
     }
     if is_at(row, at, b',') {
-        let next = at + 1;
-        return Field::Took { at: next, len: 0 };
+        return Ok(at + 1);
     }
-    Field::Stops { at }
+    Err(Stop { at })
 }
 
 // The end of the row, and nothing more.
-fn end_of(row: &[u8], at: usize, len: usize) -> Message
+fn end_of(row: &[u8], at: usize) -> Result<(), Stop>
     requires { at ≤ length row.now }
-    ensures { Ended row.now at len result }
+    ensures { Ended row.now at result }
 {
     if !is_at(row, at, b'\r') {
-        return Message::Stops { at };
+        return Err(Stop { at });
     }
     let next = at + 1;
     if !is_at(row, next, b'\n') {
-        return Message::Stops { at: next };
+        return Err(Stop { at: next });
     }
     let behind = next + 1;
     if behind < row.len() {
-        return Message::Stops { at: behind };
+        return Err(Stop { at: behind });
     }
-    Message::Laid { len }
+    Ok(())
 }
 
-// The message of a row whose fields' numbers, so many, stand at `from` in the table.
+// The length of the message of a row whose fields' numbers stand in the table.
 pub fn take_row(
     table: &[u8],
     l: Layout,
-    from: usize,
-    width: usize,
+    fields: Columns,
     row: &[u8],
     out: &mut [u8],
-) -> Message
-    requires { Rowed table.now l from width }
-    ensures { LaysMessage (taken_by (columns (field_shapes table.now l from width)) row.now) 0 out.old result out.new }
+) -> Result<usize, Stop>
+    requires { Rowed table.now l fields.from fields.width }
+    ensures { LaysMessage (taken_by (columns (field_shapes table.now l fields.from fields.width)) row.now) 0 out.old result out.new }
 {
-    let mut child = from;
-    let mut left = width;
-    let mut first = true;
-    let mut at: usize = 0;
-    let mut to: usize = 0;
-    while 0 < left {
-        let c = table::u16_at(table, child);
-        let number = table::kind_at(table, l, c);
-        let begun = start_of(first, row, at);
-        match begun {
-            Field::Stops { at: end } => {
-                return Message::Stops { at: end };
-            }
-            Field::Took { at: start, len: _ } => {
-                let got = take_field::take_field(number, row, start, out, to);
-                match got {
-                    Field::Stops { at: end } => {
-                        return Message::Stops { at: end };
-                    }
-                    Field::Took { at: next, len } => {
-                        at = next;
-                        to = len;
-                        first = false;
-                        child = child + 2;
-                        left = left - 1;
-                    }
-                }
-            }
-        }
+    let mut taken = Took { at: 0, len: 0 };
+    for i in 0..fields.width {
+        let number = fields.kind(table, l, i);
+        let start = start_of(i == 0, row, taken.at)?;
+        taken = take_field::take_field(number, row, start, out, taken.len)?;
     }
-    end_of(row, at, to)
+    end_of(row, taken.at)?;
+    Ok(taken.len)
 }

@@ -1,5 +1,6 @@
 -- The steps of a text or a char: its first quote, a char's bytes, a quote, and its end.
 -- Assumes nothing.
+use Rattle.std.specs.Prelude.{Some, None, Result, Ok, Err}
 use mathlib.Core.Path.{◌≡◌, refl, sym, ap, ◌∙◌}
 use mathlib.Core.Bool.{Bool, true, false}
 use mathlib.Core.List.{List}
@@ -8,35 +9,30 @@ use Prim.Native.Nat.{ℕ, zero, suc, ◌+◌, ◌-◌, ◌<◌, ◌≤◌}
 use native.Mathlib.Omega.{arith}
 use lib.Dec.{ltb, leb, eqb}
 use lib.ListN.{length, get_or}
-use borrow.Author.Tests.{ltb-true, eqb-true, lt-ltb, le-ltb, le-leb, lt-leb, eq-eqb, ne_eqb}
+use borrow.Author.Tests.{lt-ltb, le-ltb, le-leb, lt-leb, eq-eqb, ne_eqb}
 use Rattle.wire.specs.Tests.{pick, both}
 use Rattle.wire.specs.Text.{width_of, low_of, high_of}
-use Rattle.laws.proofs.Splits.{by-test, by-lt, not-both, both_yes, both_left, both_right}
+use Rattle.laws.proofs.Splits.{by-test, by-lt, both_yes, both_left, both_right}
 use Rattle.desk.specs.Csv.{quote}
 use Rattle.spellings.specs.Accept.{when}
+use Rattle.take_number.specs.declared.Stop.{Stop}
 use Rattle.take_number.specs.Scans.{Ends}
+use Rattle.take_number.proofs.Figures.{at_there, at_test}
 use Rattle.take_number.proofs.Scanning.{ends-here, ends_on}
 use Rattle.take_text.specs.declared.Quoted.{Quoted}
-use Rattle.take_text.specs.declared.Turn.{Turn}
-use Rattle.take_text.specs.declared.Turn.TheVariants.{On, Out}
-use Rattle.take_text.specs.Marks.{Mark, before, within, behind, may_go_on, mark_step, marks, is_whole, Said, Answers, Turns, on, out, AtQuote, stop_at, is_quote, PassesPlain, behind_run}
+use Rattle.take_text.specs.declared.Step.{Step}
+use Rattle.take_text.specs.Marks.{Mark, before, within, behind, may_go_on, mark_step, marks, is_whole, Answers, quoted, stops, Turns, on, closes, out, AtQuote, is_quote, PassesPlain, behind_run}
 
 -- ---- tests
 
 pub quote-there : (s : List ℕ) (i : ℕ) → is_quote s i ≡ true → (i < length s) × (get_or s i 0 ≡ quote)
-unfolding is_quote
-quote-there s i h = (ltb-true i (length s) (both_left _ _ h), eqb-true (get_or s i 0) quote (both_right (ltb i (length s)) _ h))
+quote-there s i h = at_there s i quote h
 
 pub quote-test : (s : List ℕ) (i : ℕ) → i < length s → eqb (get_or s i 0) quote ≡ is_quote s i
-unfolding is_quote both
-quote-test s i h = rw (lt-ltb i (length s) h)
+quote-test s i h = at_test s i quote h
 
 pub quote-is : (s : List ℕ) (i : ℕ) → i < length s → get_or s i 0 ≡ quote → is_quote s i ≡ true
 quote-is s i h e = sym (quote-test s i h) ∙ eq-eqb (get_or s i 0) quote e
-
-pub quote-beyond : (s : List ℕ) (i : ℕ) → length s ≤ i → false ≡ is_quote s i
-unfolding is_quote both
-quote-beyond s i h = rw (le-ltb i (length s) h)
 
 pub may-one : (one : Bool) (n : ℕ) → one ≡ true → eqb n 0 ≡ may_go_on one n
 unfolding may_go_on
@@ -115,19 +111,20 @@ module _ (b : ℕ) where
 
 -- ---- ends
 
-within-said : (one : Bool) (n k lo hi i : ℕ) → Said one (within n k lo hi) (record { whole = false; len = 0; at = i })
+-- inside it no spelling is whole
+within-not : (one : Bool) (n k lo hi : ℕ) → is_whole one (within n k lo hi) ≡ false
 unfolding is_whole
-within-said one n k lo hi i = record { whole = refl; len = λ e. not-both e refl }
+within-not one n k lo hi = refl
 
 -- no byte goes on
 module _ (one : Bool) (n k lo hi : ℕ) (s : List ℕ) (i : ℕ) where
-  pub no-turn : i < length s → mark_step one (within n k lo hi) (get_or s i 0) ≡ none → Turns one n k lo hi s i (stop_at i)
-  no-turn h e = out (record { state = within n k lo hi; ends = ends-here (marks one) s i (omega arith) (λ l. e); said = within-said one n k lo hi i })
+  pub no-turn : i < length s → mark_step one (within n k lo hi) (get_or s i 0) ≡ none → Turns one n k lo hi s i (Err (record { at = i }))
+  no-turn h e = out (stops (ends-here (marks one) s i (omega arith) (λ l. e)) (within-not one n k lo hi))
 
-  pub row_ends : i ≤ length s → length s ≤ i → Answers one (within n k lo hi) s i (record { whole = false; len = 0; at = i })
-  row_ends h l = record { state = within n k lo hi; ends = ends-here (marks one) s i h (λ m. absurd (omega arith)); said = within-said one n k lo hi i }
+  pub row_ends : i ≤ length s → length s ≤ i → Answers one (within n k lo hi) s i (Err (record { at = i }))
+  row_ends h l = stops (ends-here (marks one) s i h (λ m. absurd (omega arith))) (within-not one n k lo hi)
 
-  pub a_turn : {j l m o : ℕ} → i < length s → j ≡ i + 1 → mark_step one (within n k lo hi) (get_or s i 0) ≡ some (within (n + 1) l m o) → Turns one n k lo hi s i (On j l m o)
+  pub a_turn : {j l m o : ℕ} → i < length s → j ≡ i + 1 → mark_step one (within n k lo hi) (get_or s i 0) ≡ some (within (n + 1) l m o) → Turns one n k lo hi s i (Ok (Some (record { at = j; rest = record { more = l; low = m; high = o } })))
   a_turn h e f = rw e (on (λ y z r. ends_on (marks one) s i h f r) (omega arith) (omega arith))
 
 -- ---- steps of a char's bytes
@@ -179,7 +176,7 @@ module _ (one : Bool) (n : ℕ) (s : List ℕ) (i : ℕ) (q : is_quote s i ≡ t
   unfolding mark_step when
   behind-none j h l = rw (ap (λ t. both t (may_go_on one n)) (quote-test s j l) ∙ h)
 
-  pub two-quotes : {t : Bool} → t ≡ both (is_quote s (i + 1)) (may_go_on one n) → t ≡ true → AtQuote one n s i (On (i + 1 + 1) 0 0 0)
+  pub two-quotes : {t : Bool} → t ≡ both (is_quote s (i + 1)) (may_go_on one n) → t ≡ true → AtQuote one n s i (Ok (Some (record { at = i + 1 + 1; rest = record { more = 0; low = 0; high = 0 } })))
   two-quotes e f =
       let h : both (is_quote s (i + 1)) (may_go_on one n) ≡ true = sym e ∙ f in
       let l = quote-there s i q in
@@ -188,19 +185,17 @@ module _ (one : Bool) (n : ℕ) (s : List ℕ) (i : ℕ) (q : is_quote s i ≡ t
         any = λ lo hi. on (λ y z r. ends_on (marks one) s i l.0 (lead-quote one n (get_or s i 0) 0 lo hi (omega arith) l.1) (ends_on (marks one) s (i + 1) m.0 (behind-step (i + 1) h) r)) (omega arith) (omega (arith, m.0));
       }
 
-  pub one-quote : {t w : Bool} → t ≡ both (is_quote s (i + 1)) (may_go_on one n) → t ≡ false → w ≡ is_whole one (behind n) → AtQuote one n s i (Out (record { whole = w; len = n; at = i + 1 }))
-  one-quote e f w =
-      let l = quote-there s i q in
-      record {
-        any =
-            λ lo hi.
-            out
-            (record {
-              state = behind n;
-              ends = ends_on (marks one) s i l.0 (lead-quote one n (get_or s i 0) 0 lo hi (omega arith) l.1) (ends-here (marks one) s (i + 1) (omega (arith, l.0)) (behind-none (i + 1) (sym e ∙ f)));
-              said = record { whole = w; len = λ e. refl };
-            });
-      }
+  module _ {t : Bool} (e : t ≡ both (is_quote s (i + 1)) (may_go_on one n)) (f : t ≡ false) where
+    ends-behind : (lo hi : ℕ) → Ends (marks one) (within n 0 lo hi) s i (behind n) (i + 1)
+    ends-behind lo hi =
+        let l = quote-there s i q in
+        ends_on (marks one) s i l.0 (lead-quote one n (get_or s i 0) 0 lo hi (omega arith) l.1) (ends-here (marks one) s (i + 1) (omega (arith, l.0)) (behind-none (i + 1) (sym e ∙ f)))
+
+    pub closing-quote : is_whole one (behind n) ≡ true → AtQuote one n s i (Ok None)
+    closing-quote w = record { any = λ lo hi. closes (quoted (ends-behind lo hi) w) }
+
+    pub empty-quote : is_whole one (behind n) ≡ false → AtQuote one n s i (Err (record { at = i + 1 }))
+    empty-quote w = record { any = λ lo hi. out (stops (ends-behind lo hi) w) }
 
 -- ---- all bytes
 
@@ -213,21 +208,21 @@ pub going-begin : (one : Bool) (s : List ℕ) (from : ℕ) → from ≤ length s
 going-begin one s from h = record { finish = λ e. e; inside = h; few = omega arith }
 
 module _ {one : Bool} {s : List ℕ} {from at n k lo hi : ℕ} (g : Going one s from at n k lo hi) where
-  pub going_end : length s ≤ at → Answers one (within 0 0 0 0) s from (record { whole = false; len = 0; at = at })
-  going_end h = let r = row_ends one n k lo hi s at g.inside h in record { state = r.state; ends = g.finish r.ends; said = r.said }
+  going-answer : {r : Result Quoted Stop} → Answers one (within n k lo hi) s at r → Answers one (within 0 0 0 0) s from r
+  going-answer (quoted e w) = quoted (g.finish e) w
+  going-answer (stops e w) = stops (g.finish e) w
 
-  module _ {t : Turn} (u : Turns one n k lo hi s at t) where
-    pub going-out : {q : Quoted} → t ≡ Out q → Answers one (within 0 0 0 0) s from q
-    going-out {q} e = go (rw e at u)
-      where
-        go : Turns one n k lo hi s at (Out q) → Answers one (within 0 0 0 0) s from q
-        go (out r) = record { state = r.state; ends = g.finish r.ends; said = r.said }
+  pub going_end : length s ≤ at → Answers one (within 0 0 0 0) s from (Err (record { at = at }))
+  going_end h = going-answer (row_ends one n k lo hi s at g.inside h)
 
-    pub going_on : {j l m o : ℕ} → t ≡ On j l m o → Going one s from j (n + 1) l m o × (at < j)
-    going_on {j} {l} {m} {o} e = go (rw e at u)
-      where
-        go : Turns one n k lo hi s at (On j l m o) → Going one s from j (n + 1) l m o × (at < j)
-        go (on f h i) = (record { finish = λ r. g.finish (f _ _ r); inside = i; few = omega (arith, g.few) }, h)
+  pub going-out : {r : Stop} → Turns one n k lo hi s at (Err r) → Answers one (within 0 0 0 0) s from (Err r)
+  going-out (out r) = going-answer r
+
+  pub going-closed : Turns one n k lo hi s at (Ok None) → Answers one (within 0 0 0 0) s from (Ok (record { len = n; at = at + 1 }))
+  going-closed (closes r) = going-answer r
+
+  pub going_on : {t : Step} → Turns one n k lo hi s at (Ok (Some t)) → Going one s from t.at (n + 1) t.rest.more t.rest.low t.rest.high × (at < t.at)
+  going_on (on f h i) = (record { finish = λ r. g.finish (f _ _ r); inside = i; few = omega (arith, g.few) }, h)
 
 -- ---- plain bytes
 
@@ -302,10 +297,10 @@ module _ (one : Bool) (s : List ℕ) (i : ℕ) where
   unfolding mark_step when
   before-none h l = rw (quote-test s i l ∙ h)
 
-  pub opened : {q : Quoted} → is_quote s i ≡ true → Answers one (within 0 0 0 0) s (i + 1) q → Answers one before s i q
-  opened h r = record { state = r.state; ends = ends_on (marks one) s i (quote-there s i h).0 (before-step h) r.ends; said = r.said }
+  pub opened : {r : Result Quoted Stop} → is_quote s i ≡ true → Answers one (within 0 0 0 0) s (i + 1) r → Answers one before s i r
+  opened h (quoted e w) = quoted (ends_on (marks one) s i (quote-there s i h).0 (before-step h) e) w
+  opened h (stops e w) = stops (ends_on (marks one) s i (quote-there s i h).0 (before-step h) e) w
 
-  pub not_opened : i ≤ length s → is_quote s i ≡ false → Answers one before s i (record { whole = false; len = 0; at = i })
+  pub not_opened : i ≤ length s → is_quote s i ≡ false → Answers one before s i (Err (record { at = i }))
   unfolding is_whole
-  not_opened h e =
-      record { state = before; ends = ends-here (marks one) s i h (before-none e); said = record { whole = refl; len = λ e. not-both e refl } }
+  not_opened h e = stops (ends-here (marks one) s i h (before-none e)) refl

@@ -1,15 +1,16 @@
 -- Texts and chars read byte by byte, by how many bytes they have and not by which.
 -- Assumes nothing.
-use Rattle.std.specs.Prelude.{◌≡◌, Bool, true, false, List, ℕ, zero, suc, ◌+◌, ◌-◌, ◌<◌, ◌≤◌, ltb, leb, eqb, length, get_or}
+use Rattle.std.specs.Prelude.{◌≡◌, Bool, true, false, List, ℕ, zero, suc, ◌+◌, ◌-◌, ◌<◌, ◌≤◌, ltb, leb, eqb, length, get_or, Some, None, Result, Ok, Err}
+use Rattle.std.specs.Prelude as code
 use Rattle.std.proofs.Math.Option.{Option, none, some}
 use Rattle.wire.specs.Tests.{pick, both}
 use Rattle.wire.specs.Text.{width_of, low_of, high_of}
 use Rattle.desk.specs.Csv.{quote}
 use Rattle.spellings.specs.Accept.{Acceptor, when}
-use Rattle.take_number.specs.Scans.{Ends}
+use Rattle.take_number.specs.declared.Stop.{Stop}
+use Rattle.take_number.specs.Scans.{is_at, Ends}
 use Rattle.take_text.specs.declared.Quoted.{Quoted}
-use Rattle.take_text.specs.declared.Turn.{Turn}
-use Rattle.take_text.specs.declared.Turn.TheVariants.{On, Out}
+use Rattle.take_text.specs.declared.Step.{Step}
 
 -- before the quote; behind n bytes, k more of a char being open, the next from lo to hi; behind n bytes and a quote
 pub data Mark : Type 0 where
@@ -39,34 +40,21 @@ is_whole one (within n k lo hi) = false
 is_whole false (behind n) = true
 is_whole true (behind n) = ltb 0 n
 
--- what is answered of the state in which it ends
-pub record Said (one : Bool) (y : Mark) (q : Quoted) : Type 0 where
-  pub whole : q.whole ≡ is_whole one y
-  pub len : q.whole ≡ true → y ≡ behind q.len
+-- from a state at the place i on, what is answered: a whole spelling of so many bytes, or where it stops
+pub data Answers (one : Bool) (x : Mark) (s : List ℕ) (i : ℕ) : Result Quoted Stop → Type 0 where
+  quoted : {n j : ℕ} → Ends (marks one) x s i (behind n) j → is_whole one (behind n) ≡ true → Answers one x s i (Ok (record { len = n; at = j }))
+  stops : {y : Mark} {j : ℕ} → Ends (marks one) x s i y j → is_whole one y ≡ false → Answers one x s i (Err (record { at = j }))
 
--- from a state at the place i on, what is answered
-pub record Answers (one : Bool) (x : Mark) (s : List ℕ) (i : ℕ) (q : Quoted) : Type 0 where
-  pub state : Mark
-  pub ends : Ends (marks one) x s i state q.at
-  pub said : Said one state q
-
--- one byte more of a text behind n bytes, or the answer
-pub data Turns (one : Bool) (n k lo hi : ℕ) (s : List ℕ) (i : ℕ) : Turn → Type 0 where
+-- one byte more of a text behind n bytes, or the closing quote, or where it stops
+pub data Turns (one : Bool) (n k lo hi : ℕ) (s : List ℕ) (i : ℕ) : Result (code.Option Step) Stop → Type 0 where
   on : {j l m o : ℕ} → ((y : Mark) (z : ℕ) → Ends (marks one) (within (n + 1) l m o) s j y z → Ends (marks one) (within n k lo hi) s i y z) → i < j → j ≤ length s
-      → Turns one n k lo hi s i (On j l m o)
-  out : {q : Quoted} → Answers one (within n k lo hi) s i q → Turns one n k lo hi s i (Out q)
+      → Turns one n k lo hi s i (Ok (Some (record { at = j; rest = record { more = l; low = m; high = o } })))
+  closes : Answers one (within n k lo hi) s i (Ok (record { len = n; at = i + 1 })) → Turns one n k lo hi s i (Ok None)
+  out : {r : Stop} → Answers one (within n k lo hi) s i (Err r) → Turns one n k lo hi s i (Err r)
 
 -- the same at a quote, where no bytes are open
-pub record AtQuote (one : Bool) (n : ℕ) (s : List ℕ) (i : ℕ) (r : Turn) : Type 0 where
+pub record AtQuote (one : Bool) (n : ℕ) (s : List ℕ) (i : ℕ) (r : Result (code.Option Step) Stop) : Type 0 where
   pub any : (lo hi : ℕ) → Turns one n 0 lo hi s i r
-
--- the row ends at a place, in front of the closing quote
-abbrev pub cut_at : ℕ → Quoted
-cut_at i = record { whole = false; len = 0; at = i }
-
--- the row stops at a place
-abbrev pub stop_at : ℕ → Turn
-stop_at i = Out (cut_at i)
 
 -- from the place i up to j all bytes are plain, below 0x80 and no quote; past any it is only gone in a text and between chars
 pub record PassesPlain (one : Bool) (k : ℕ) (s : List ℕ) (i j : ℕ) : Type 0 where
@@ -81,5 +69,5 @@ behind_run zero plain was = was
 behind_run (suc run) plain was = plain
 
 -- a quote stands at a place
-unfoldable pub is_quote : List ℕ → ℕ → Bool
-is_quote s i = both (ltb i (length s)) (eqb (get_or s i 0) quote)
+abbrev pub is_quote : List ℕ → ℕ → Bool
+is_quote s i = is_at s i quote

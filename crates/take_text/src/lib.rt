@@ -5,89 +5,75 @@
 ghost use Rattle.std.specs.Prelude.{◌≡◌, true, ◌<◌, ◌≤◌, length};
 ghost use Rattle.wire.specs.Tests.{both};
 ghost use Rattle.wire.specs.Text.{width_of, low_of, high_of};
-ghost use Rattle.take_text.specs.Marks.{before, within, behind, may_go_on, is_whole, is_quote, stop_at, cut_at, behind_run, Answers, Turns, AtQuote, PassesPlain};
+ghost use Rattle.take_text.specs.Marks.{before, within, behind, may_go_on, is_whole, is_quote, behind_run, Answers, Turns, AtQuote, PassesPlain};
+
+use take_number::Stop;
 
 const QUOTE: u8 = b'"';
 
-// Whether what stands there is whole, how many bytes it then has, and the place behind what was gone through.
+// How many bytes stand between quotes, and the place behind the closing one.
 #[derive(Clone, Copy)]
 pub struct Quoted {
-    pub whole: bool,
     pub len: usize,
     pub at: usize,
 }
 
-// On to a place, with so many bytes of a char open, the next from `low` to `high`; or the answer.
+// How many bytes of a char are still open, and the range of the next.
 #[derive(Clone, Copy)]
-pub enum Turn {
-    On {
-        at: usize,
-        more: u8,
-        low: u8,
-        high: u8,
-    },
-    Out {
-        quoted: Quoted,
-    },
+pub struct Open {
+    pub more: u8,
+    pub low: u8,
+    pub high: u8,
 }
+
+// A place to go on from, and what of a char is open there.
+#[derive(Clone, Copy)]
+pub struct Step {
+    pub at: usize,
+    pub rest: Open,
+}
+
+// No char has begun.
+const NONE: Open = Open {
+    more: 0,
+    low: 0,
+    high: 0,
+};
 
 // ---- bytes
-
-// Whether a quote stands at a place.
-pub fn is_quote(row: &[u8], at: usize) -> bool
-    ensures { result ≡ is_quote row.now at }
-{
-    if at < row.len() {
-        return row[at] == QUOTE;
-    }
-    false
-}
 
 // How many bytes a char has that starts with a byte, 0 where none does.
 fn width(b: u8) -> u8
     ensures { result ≡ width_of b }
 {
-    if b < 0x80 {
-        return 1;
+    match b {
+        0..=0x7f => 1,
+        0xc2..=0xdf => 2,
+        0xe0..=0xef => 3,
+        0xf0..=0xf4 => 4,
+        _ => 0,
     }
-    if b < 0xc2 {
-        return 0;
-    }
-    if b < 0xe0 {
-        return 2;
-    }
-    if b < 0xf0 {
-        return 3;
-    }
-    if b < 0xf5 {
-        return 4;
-    }
-    0
 }
 
 // The range of the byte behind it.
 fn low_of(b: u8) -> u8
     ensures { result ≡ low_of b }
 {
-    if b == 0xe0 {
-        return 0xa0;
+    match b {
+        0xe0 => 0xa0,
+        0xf0 => 0x90,
+        _ => 0x80,
     }
-    if b == 0xf0 {
-        return 0x90;
-    }
-    0x80
 }
 
 fn high_of(b: u8) -> u8
     ensures { result ≡ high_of b }
 {
-    if b == 0xed {
-        return 0x9f;
+    match b {
+        0xed => 0x9f,
+        0xf4 => 0x8f,
+        _ => 0xbf,
     }
-    if b == 0xf4 {
-        return 0x8f;
-    }
-    0xbf
 }
 
 // ---- between quotes
@@ -96,103 +82,71 @@ fn high_of(b: u8) -> u8
 fn may_go_on(one: bool, len: usize) -> bool
     ensures { result ≡ may_go_on one len }
 {
-    if one {
-        return len == 0;
-    }
-    true
-}
-
-// The row stops at a place.
-fn stop(at: usize) -> Turn
-    ensures { result ≡ stop_at at }
-{
-    let quoted = Quoted {
-        whole: false,
-        len: 0,
-        at,
-    };
-    Turn::Out { quoted }
+    !one || len == 0
 }
 
 // Whether a second quote makes one byte more behind so many.
 fn goes_on(one: bool, len: usize, row: &[u8], at: usize) -> bool
     ensures { result ≡ both (is_quote row.now at) (may_go_on one len) }
 {
-    if is_quote(row, at) {
-        return may_go_on(one, len);
-    }
-    false
+    take_number::is_at(row, at, QUOTE) && may_go_on(one, len)
 }
 
 // Whether so many bytes between quotes are whole: of a char at least one.
 fn is_whole(one: bool, len: usize) -> bool
     ensures { result ≡ is_whole one (behind len) }
 {
-    if one {
-        return 0 < len;
-    }
-    true
+    !one || 0 < len
 }
 
 // A quote behind so many bytes: the first of two, or the closing one.
-fn at_quote(one: bool, len: usize, row: &[u8], at: usize) -> Turn
+fn at_quote(one: bool, len: usize, row: &[u8], at: usize) -> Result<Option<Step>, Stop>
     requires { is_quote row.now at ≡ true }
     ensures { AtQuote one len row.now at result }
 {
     let next = at + 1;
     if goes_on(one, len, row, next) {
-        return Turn::On {
+        return Ok(Some(Step {
             at: next + 1,
-            more: 0,
-            low: 0,
-            high: 0,
-        };
+            rest: NONE,
+        }));
     }
-    let whole = is_whole(one, len);
-    let quoted = Quoted {
-        whole,
-        len,
-        at: next,
-    };
-    Turn::Out { quoted }
+    if is_whole(one, len) {
+        return Ok(None);
+    }
+    Err(Stop { at: next })
 }
 
-// The next byte of a text behind so many.
-fn next_byte(one: bool, len: usize, more: u8, low: u8, high: u8, row: &[u8], at: usize) -> Turn
+// The next byte of a text behind so many, unless it is the closing quote.
+fn next_byte(one: bool, len: usize, open: Open, row: &[u8], at: usize) -> Result<Option<Step>, Stop>
     requires { at < length row.now }
-    ensures { Turns one len more low high row.now at result }
+    ensures { Turns one len open.more open.low open.high row.now at result }
 {
     let b = row[at];
-    if 0 < more {
-        if b < low {
-            return stop(at);
+    if 0 < open.more {
+        if b < open.low || open.high < b {
+            return Err(Stop { at });
         }
-        if high < b {
-            return stop(at);
-        }
-        return Turn::On {
-            at: at + 1,
-            more: more - 1,
+        let rest = Open {
+            more: open.more - 1,
             low: 0x80,
             high: 0xbf,
         };
+        return Ok(Some(Step { at: at + 1, rest }));
     }
     if b == QUOTE {
         return at_quote(one, len, row, at);
     }
-    if !may_go_on(one, len) {
-        return stop(at);
-    }
     let w = width(b);
-    if w < 1 {
-        return stop(at);
+    if w < 1 || !may_go_on(one, len) {
+        return Err(Stop { at });
     }
-    Turn::On {
-        at: at + 1,
+    let rest = Open {
         more: w - 1,
         low: low_of(b),
         high: high_of(b),
-    }
+    };
+    Ok(Some(Step { at: at + 1, rest }))
 }
 
 // The place behind the plain bytes from a place on, each below 0x80 and no quote: of a text only, and only between its chars.
@@ -206,93 +160,72 @@ fn after_plain(one: bool, more: u8, row: &[u8], at: usize) -> usize
     if more != 0 {
         return at;
     }
-    let mut i = at;
-    while i < row.len() {
-        let b = row[i];
-        if 0x80 <= b {
-            return i;
+    for (i, b) in row[at..].iter().enumerate() {
+        if 0x80 <= *b {
+            return at + i;
         }
-        if b == QUOTE {
-            return i;
+        if *b == QUOTE {
+            return at + i;
         }
-        i = i + 1;
     }
-    i
+    row.len()
 }
 
-// An end of the next byte's range behind so many plain bytes: that of a plain byte, or without one what it was.
-fn behind_run(run: usize, plain: u8, was: u8) -> u8
-    ensures { result ≡ behind_run run plain was }
+// What is open behind so many plain bytes: nothing, or without one what was.
+fn behind_run(run: usize, was: Open) -> Open
+    ensures low { result.low ≡ behind_run run 0x80 was.low }
+    ensures high { result.high ≡ behind_run run 0xbf was.high }
+    ensures more { result.more ≡ was.more }
 {
     if 0 < run {
-        return plain;
+        return Open {
+            more: was.more,
+            low: 0x80,
+            high: 0xbf,
+        };
     }
     was
 }
 
-// The row ends at a place, in front of the closing quote.
-fn cut(at: usize) -> Quoted
-    ensures { result ≡ cut_at at }
-{
-    Quoted {
-        whole: false,
-        len: 0,
-        at,
-    }
-}
-
 // All bytes behind the first quote: a run of plain ones, then one that is looked at, and so on.
-fn inside(one: bool, row: &[u8], from: usize) -> Quoted
+fn inside(one: bool, row: &[u8], from: usize) -> Result<Quoted, Stop>
     requires { from ≤ length row.now }
     ensures { Answers one (within 0 0 0 0) row.now from result }
 {
     let mut at = from;
     let mut len: usize = 0;
-    let mut more: u8 = 0;
-    let mut low: u8 = 0;
-    let mut high: u8 = 0;
+    let mut open = NONE;
     while at < row.len() {
-        let far = after_plain(one, more, row, at);
+        let far = after_plain(one, open.more, row, at);
         if row.len() <= far {
-            return cut(far);
+            return Err(Stop { at: far });
         }
-        let run = far - at;
-        let passed = len + run;
-        let lo = behind_run(run, 0x80, low);
-        let hi = behind_run(run, 0xbf, high);
-        let got = next_byte(one, passed, more, lo, hi, row, far);
-        match got {
-            Turn::Out { quoted } => {
-                return quoted;
+        let passed = len + (far - at);
+        let now = behind_run(far - at, open);
+        match next_byte(one, passed, now, row, far)? {
+            None => {
+                return Ok(Quoted {
+                    len: passed,
+                    at: far + 1,
+                });
             }
-            Turn::On {
-                at: next,
-                more: m,
-                low: l,
-                high: h,
-            } => {
-                at = next;
-                more = m;
-                low = l;
-                high = h;
+            Some(step) => {
+                at = step.at;
+                open = step.rest;
                 len = passed + 1;
             }
         }
     }
-    cut(at)
+    Err(Stop { at })
 }
 
 // A text, or one char alone.
-pub fn take_text(one: bool, row: &[u8], at: usize) -> Quoted
+pub fn take_text(one: bool, row: &[u8], at: usize) -> Result<Quoted, Stop>
     requires { at ≤ length row.now }
     ensures { Answers one before row.now at result }
 {
-    if is_quote(row, at) {
+    if take_number::is_at(row, at, QUOTE) {
         return inside(one, row, at + 1);
     }
-    Quoted {
-        whole: false,
-        len: 0,
-        at,
-    }
+    Err(Stop { at })
 }

@@ -1,22 +1,22 @@
 -- A mark in numbers: which of them wait, and what each answer leaves.
 -- Assumes nothing.
-use mathlib.Core.Path.{◌≡◌}
-use mathlib.Core.Bool.{Bool, true, false}
+use mathlib.Core.Path.{◌≡◌, refl}
+use mathlib.Core.Bool.{Bool, true, false, not}
 use Prim.Native.Nat.{ℕ}
-use borrow.Author.Tests.{eq-eqb, ne_eqb}
+use lib.Dec.{eqb}
 use Rattle.wire.specs.Tests.{pick}
 use Rattle.wire.specs.Answers.{yes_number}
 use Rattle.wire.specs.declared.FeedAnswer.{FeedAnswer}
 use Rattle.wire.specs.declared.FeedAnswer.TheVariants.{Consumed, OverFull, BadFrame, Frame, BadState}
 use Rattle.telling.specs.Marks.{waits, mark_after}
 
-pub none-waits : (mark : ℕ) → mark ≡ 0 → false ≡ waits mark
+pub mark-waits : (mark : ℕ) → not (eqb mark 0) ≡ waits mark
 unfolding waits pick
-none-waits mark is = rw (eq-eqb mark 0 is)
-
-pub some-waits : (mark : ℕ) → (mark ≡ 0 → ⊥) → true ≡ waits mark
-unfolding waits pick
-some-waits mark is = rw (ne_eqb mark 0 is)
+mark-waits mark = go (eqb mark 0)
+  where
+    go : (none : Bool) → not none ≡ pick none false true
+    go true = refl
+    go false = refl
 
 module _ {answer : FeedAnswer} (before : ℕ) (waiting : Bool) where
   pub left-bad : answer ≡ BadState → before ≡ mark_after answer before waiting

@@ -5,40 +5,40 @@ use mathlib.Core.Bool.{Bool}
 use Prim.Native.Nat.{ℕ}
 use Rattle.wire.specs.declared.Refusal.{Refusal}
 use Rattle.wire.specs.declared.Layout.{Layout}
-use Rattle.wire.specs.declared.Checked.{Checked}
-use Rattle.wire.specs.declared.Checked.TheVariants.{Good, Bad}
-use Rattle.wire.specs.declared.ReadAnswer.{ReadAnswer}
-use Rattle.wire.specs.declared.ReadAnswer.TheVariants.{Done, Refused as NotRead}
-use Rattle.wire.specs.declared.WriteAnswer.{WriteAnswer}
-use Rattle.wire.specs.declared.WriteAnswer.TheVariants.{Done as Written, Refused as NotWritten}
+use Rattle.wire.specs.Checked.{Checked}
+use Rattle.wire.specs.Checked.{Good, Bad}
+use Rattle.wire.specs.ReadAnswer.{ReadAnswer}
+use Rattle.wire.specs.ReadAnswer.{Done, Refused as NotRead}
+use Rattle.wire.specs.WriteAnswer.{WriteAnswer}
+use Rattle.wire.specs.WriteAnswer.{Done as Written, Refused as NotWritten}
 use Rattle.wire.specs.declared.Side.{Side}
-use Rattle.wire.specs.declared.AskAnswer.{AskAnswer}
-use Rattle.wire.specs.declared.AskAnswer.TheVariants.{Says, Refused as NotAsked, ShortArea}
-use Rattle.wire.specs.declared.TakeAnswer.{TakeAnswer}
-use Rattle.wire.specs.declared.TakeAnswer.TheVariants.{Done as Taken, Refused as NotTaken}
+use Rattle.wire.specs.AskAnswer.{AskAnswer}
+use Rattle.wire.specs.AskAnswer.{Says, Refused as NotAsked, ShortArea}
+use Rattle.wire.specs.TakeAnswer.{TakeAnswer}
+use Rattle.wire.specs.TakeAnswer.{Done as Taken, Refused as NotTaken}
 use Rattle.wire.specs.Answers.{side_number, yes_number, refusal_number, numbered, done, check_says, read_says, write_says, take_says, ask_says, place_after}
-use Rattle.desk.specs.declared.OpenAnswer.{OpenAnswer}
-use Rattle.desk.specs.declared.OpenAnswer.TheVariants.{Done as OpenDone, Refused as NotOpened, ShortList}
+use Rattle.desk.specs.OpenAnswer.{OpenAnswer}
+use Rattle.desk.specs.OpenAnswer.{Done as OpenDone, Refused as NotOpened, ShortList}
 use Rattle.desk.specs.Listed.{open_says, open_count}
-use Rattle.desk.specs.declared.FindAnswer.{FindAnswer}
-use Rattle.desk.specs.declared.FindAnswer.TheVariants.{Found as AtPath, NoItem, Absent, Refused as NotFound}
+use Rattle.desk.specs.FindAnswer.{FindAnswer}
+use Rattle.desk.specs.FindAnswer.{Found as AtPath, NoItem, Absent, Refused as NotFound}
 use Rattle.desk.specs.Path.{find_says}
 use Rattle.desk.specs.Path as path
-use Rattle.desk.specs.declared.CompareAnswer.{CompareAnswer}
-use Rattle.desk.specs.declared.CompareAnswer.TheVariants.{Done as AllPairs, Short, Refused as NotCompared, OtherRefused}
+use Rattle.desk.specs.CompareAnswer.{CompareAnswer}
+use Rattle.desk.specs.CompareAnswer.{Done as AllPairs, Short, Refused as NotCompared, OtherRefused}
 use Rattle.desk.specs.Differ.{compare_says}
 use Rattle.desk.specs.Differ as differ
 use Rattle.desk.specs.declared.Fault.{Fault}
 use Rattle.desk.specs.declared.Fault.TheVariants.{Wire, Fields, Batch as BadBatch, Missing}
-use Rattle.desk.specs.declared.BatchWritten.{BatchWritten}
-use Rattle.desk.specs.declared.BatchWritten.TheVariants.{Done as BatchDone, Refused as NoBatch}
-use Rattle.desk.specs.declared.BatchChecked.{BatchChecked}
-use Rattle.desk.specs.declared.BatchChecked.TheVariants.{Good as GoodBatch, Bad as NotGood}
-use Rattle.desk.specs.declared.BatchFound.{BatchFound}
-use Rattle.desk.specs.declared.BatchFound.TheVariants.{Part, Refused as NoPart}
+use Rattle.desk.specs.BatchWritten.{BatchWritten}
+use Rattle.desk.specs.BatchWritten.{Done as BatchDone, Refused as NoBatch}
+use Rattle.desk.specs.BatchChecked.{BatchChecked}
+use Rattle.desk.specs.BatchChecked.{Good as GoodBatch, Bad as NotGood}
+use Rattle.desk.specs.BatchFound.{BatchFound}
+use Rattle.desk.specs.BatchFound.{Part, Refused as NoPart}
 use Rattle.desk.specs.Batch.{fault_says, written_says, checked_says, found_says, from_of, len_of}
-use Rattle.desk.specs.declared.CsvAnswer.{CsvAnswer}
-use Rattle.desk.specs.declared.CsvAnswer.TheVariants.{Done as RowDone, Refused as NoRowMade, Unfit, NoRow}
+use Rattle.desk.specs.CsvAnswer.{CsvAnswer}
+use Rattle.desk.specs.CsvAnswer.{Done as RowDone, Refused as NoRowMade, Unfit, NoRow}
 use Rattle.desk.specs.Csv.{csv_says}
 use Rattle.telling.specs.Told.{Told, count_of, Counted, CountedOpen, which_of, yes_of, ToldAsked, first_of, second_of, at_of, Took, Found, ToldCompared, ToldPart}
 

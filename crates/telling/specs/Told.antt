@@ -1,22 +1,20 @@
 -- What is told of each answer: document 01's number is returned, and its place, counts and words are left.
 -- Assumes nothing.
-use Rattle.std.specs.Prelude.{◌≡◌, ℕ}
-use Rattle.wire.specs.declared.ReadAnswer.{ReadAnswer}
-use Rattle.wire.specs.declared.ReadAnswer.TheVariants.{Done, Refused as NotRead}
-use Rattle.wire.specs.declared.AskAnswer.{AskAnswer}
-use Rattle.wire.specs.declared.AskAnswer.TheVariants.{Says, Refused as NotAsked, ShortArea}
-use Rattle.wire.specs.declared.TakeAnswer.{TakeAnswer}
-use Rattle.wire.specs.declared.TakeAnswer.TheVariants.{Done as Taken, Refused as NotTaken}
+use Rattle.std.specs.Prelude.{◌≡◌, ℕ, Err, Ok}
+use Rattle.wire.specs.ReadAnswer.{ReadAnswer}
+use Rattle.wire.specs.AskAnswer.{AskAnswer}
+use Rattle.wire.specs.AskAnswer.{Says, Refused as NotAsked, ShortArea}
+use Rattle.wire.specs.TakeAnswer.{TakeAnswer}
 use Rattle.wire.specs.Answers.{side_number, yes_number, Numbered, read_says, take_says, ask_says, place_after}
-use Rattle.desk.specs.declared.OpenAnswer.{OpenAnswer}
+use Rattle.desk.specs.OpenAnswer.{OpenAnswer}
 use Rattle.desk.specs.Listed.{open_says, open_count}
-use Rattle.desk.specs.declared.FindAnswer.{FindAnswer}
+use Rattle.desk.specs.FindAnswer.{FindAnswer}
 use Rattle.desk.specs.Path.{find_says}
 use Rattle.desk.specs.Path as path
-use Rattle.desk.specs.declared.CompareAnswer.{CompareAnswer}
+use Rattle.desk.specs.CompareAnswer.{CompareAnswer}
 use Rattle.desk.specs.Differ.{compare_says}
 use Rattle.desk.specs.Differ as differ
-use Rattle.desk.specs.declared.BatchFound.{BatchFound}
+use Rattle.desk.specs.BatchFound.{BatchFound}
 use Rattle.desk.specs.Batch.{found_says, from_of, len_of}
 
 -- document 01's number is returned, and the place left
@@ -26,8 +24,8 @@ pub record Told (n : Numbered) (r p : ℕ) : Type 0 where
 
 -- the entries that an answer says were made
 unfoldable pub count_of : ReadAnswer → ℕ
-count_of (Done p n) = n
-count_of (NotRead why p n) = n
+count_of (Ok r) = r.count
+count_of (Err r) = r.count
 
 pub record Counted (a : ReadAnswer) (r p n : ℕ) : Type 0 where
   pub told : Told (read_says a) r p
@@ -57,16 +55,16 @@ pub record ToldAsked (a : AskAnswer) (r p t y : ℕ) : Type 0 where
 
 -- an item's words and the place where it stands, 0 where it is refused
 unfoldable pub first_of : TakeAnswer → ℕ
-first_of (Taken a b at p) = a
-first_of (NotTaken e p) = 0
+first_of (Ok r) = r.first
+first_of (Err r) = 0
 
 unfoldable pub second_of : TakeAnswer → ℕ
-second_of (Taken a b at p) = b
-second_of (NotTaken e p) = 0
+second_of (Ok r) = r.second
+second_of (Err r) = 0
 
 unfoldable pub at_of : TakeAnswer → ℕ
-at_of (Taken a b at p) = at
-at_of (NotTaken e p) = 0
+at_of (Ok r) = r.at
+at_of (Err r) = 0
 
 pub record Took (t : TakeAnswer) (before r p a b q : ℕ) : Type 0 where
   pub number : r ≡ (take_says t).number

@@ -5,125 +5,117 @@ ghost use Rattle.std.specs.Prelude.{◌≡◌};
 ghost use Rattle.wire.specs.Answers.{check_says, write_says};
 ghost use Rattle.desk.specs.Batch.{fault_says, written_says, checked_says};
 ghost use Rattle.desk.specs.Csv.{csv_says};
-ghost use Rattle.telling.specs.Told.{Told, Counted, CountedOpen, ToldAsked, Took, Found, ToldCompared, ToldPart};
+ghost use Rattle.telling.specs.Told.{Told, Counted, CountedOpen, ToldAsked, Took, Found as ToldFound, ToldCompared, ToldPart};
 ghost use Rattle.telling.specs.Marks.{waits, mark_after};
 
-use desk::{
-    BatchChecked, BatchFound, BatchWritten, CompareAnswer, CsvAnswer, Fault, FindAnswer, OpenAnswer,
-};
-use wire::{AskAnswer, Checked, FeedAnswer, ReadAnswer, TakeAnswer, WriteAnswer};
+use desk::{Fault, Found, NotCompared, NotFound, NotOpened, NotRows, Part};
+use wire::{FeedAnswer, Layout, NotAsked, Reached, RefusedAt, Stopped, Taken};
 
-pub fn checked(got: Checked, place: &mut u64) -> u64
+pub fn checked(got: Result<Layout, RefusedAt>, place: &mut u64) -> u64
     ensures { Told (check_says got) result place.new }
 {
     match got {
-        Checked::Good { layout: _ } => {
+        Ok(_) => {
             *place = 0;
             0
         }
-        Checked::Bad { why, place: node } => {
-            *place = node as u64;
-            numbers::refusal(why)
+        Err(refused) => {
+            *place = refused.place as u64;
+            numbers::refusal(refused.why)
         }
     }
 }
 
-pub fn reading(got: ReadAnswer, place: &mut u64, count: &mut u64) -> u64
+pub fn reading(got: Result<Reached, Stopped>, place: &mut u64, count: &mut u64) -> u64
     ensures { Counted got result place.new count.new }
 {
     match got {
-        ReadAnswer::Done {
-            place: end,
-            count: made,
-        } => {
-            *place = end as u64;
-            *count = made as u64;
+        Ok(reached) => {
+            *place = reached.place as u64;
+            *count = reached.count as u64;
             0
         }
-        ReadAnswer::Refused {
-            why,
-            place: at,
-            count: made,
-        } => {
-            *place = at as u64;
-            *count = made as u64;
-            numbers::refusal(why)
+        Err(stopped) => {
+            *place = stopped.place as u64;
+            *count = stopped.count as u64;
+            numbers::refusal(stopped.why)
         }
     }
 }
 
 // A reading with a list of open items.
-pub fn opened(got: OpenAnswer, place: &mut u64, count: &mut u64) -> u64
+pub fn opened(got: Result<Reached, NotOpened>, place: &mut u64, count: &mut u64) -> u64
     ensures { CountedOpen got result place.new count.new }
 {
     match got {
-        OpenAnswer::Done {
-            place: end,
-            count: made,
-        } => {
-            *place = end as u64;
-            *count = made as u64;
+        Ok(reached) => {
+            *place = reached.place as u64;
+            *count = reached.count as u64;
             0
         }
-        OpenAnswer::Refused {
-            why,
-            place: at,
-            count: made,
-        } => {
-            *place = at as u64;
-            *count = made as u64;
-            numbers::refusal(why)
-        }
-        OpenAnswer::ShortList => {
-            *place = 0;
-            *count = 0;
-            numbers::SHORT_OPEN
-        }
+        Err(cause) => match cause {
+            NotOpened::Refused {
+                why,
+                place: at,
+                count: made,
+            } => {
+                *place = at as u64;
+                *count = made as u64;
+                numbers::refusal(why)
+            }
+            NotOpened::ShortList => {
+                *place = 0;
+                *count = 0;
+                numbers::SHORT_OPEN
+            }
+        },
     }
 }
 
-pub fn written(got: WriteAnswer, place: &mut u64) -> u64
+pub fn written(got: Result<usize, RefusedAt>, place: &mut u64) -> u64
     ensures { Told (write_says got) result place.new }
 {
     match got {
-        WriteAnswer::Done { place: end } => {
+        Ok(end) => {
             *place = end as u64;
             0
         }
-        WriteAnswer::Refused { why, place: at } => {
-            *place = at as u64;
-            numbers::refusal(why)
+        Err(refused) => {
+            *place = refused.place as u64;
+            numbers::refusal(refused.why)
         }
     }
 }
 
 // The append question: which table is refused, and whether the answer is yes.
-pub fn asked(got: AskAnswer, place: &mut u64, which: &mut u64, yes: &mut u64) -> u64
+pub fn asked(got: Result<bool, NotAsked>, place: &mut u64, which: &mut u64, yes: &mut u64) -> u64
     ensures { ToldAsked got result place.new which.new yes.new }
 {
     match got {
-        AskAnswer::Says { yes: says } => {
+        Ok(says) => {
             *place = 0;
             *which = 0;
             *yes = numbers::yes(says);
             0
         }
-        AskAnswer::Refused {
-            side,
-            why,
-            place: node,
-        } => {
-            *place = node as u64;
-            *which = numbers::side(side);
-            *yes = 0;
-            numbers::refusal(why)
-        }
-        AskAnswer::ShortArea => {
-            *place = 0;
-            *which = 0;
-            *yes = 0;
-            numbers::SHORT_AREA
-        }
+        Err(cause) => match cause {
+            NotAsked::Table {
+                side,
+                why,
+                place: node,
+            } => {
+                *place = node as u64;
+                *which = numbers::side(side);
+                *yes = 0;
+                numbers::refusal(why)
+            }
+            NotAsked::ShortArea => {
+                *place = 0;
+                *which = 0;
+                *yes = 0;
+                numbers::SHORT_AREA
+            }
+        },
     }
 }
 
@@ -131,10 +123,7 @@ pub fn asked(got: AskAnswer, place: &mut u64, which: &mut u64, yes: &mut u64) ->
 pub fn is_waiting(mark: u64) -> bool
     ensures { result ≡ waits mark }
 {
-    if mark == 0 {
-        return false;
-    }
-    true
+    mark != 0
 }
 
 // The mark behind a feed: 24 leaves it as it was.
@@ -152,7 +141,7 @@ pub fn mark_after(answer: FeedAnswer, before: u64, waiting: bool) -> u64
 
 // One item's words and where it stands; a refusal keeps the place.
 pub fn taken(
-    got: TakeAnswer,
+    got: Result<Taken, RefusedAt>,
     place: &mut u64,
     first: &mut u64,
     second: &mut u64,
@@ -161,79 +150,84 @@ pub fn taken(
     ensures { Took got place.old result place.new first.new second.new at.new }
 {
     match got {
-        TakeAnswer::Done {
-            first: a,
-            second: b,
-            at: here,
-            place: behind,
-        } => {
-            *place = behind as u64;
-            *first = a;
-            *second = b;
-            *at = here as u64;
+        Ok(item) => {
+            *place = item.place as u64;
+            *first = item.first;
+            *second = item.second;
+            *at = item.at as u64;
             0
         }
-        TakeAnswer::Refused { why, place: _ } => {
+        Err(refused) => {
             *first = 0;
             *second = 0;
             *at = 0;
-            numbers::refusal(why)
+            numbers::refusal(refused.why)
         }
     }
 }
 
-pub fn found(got: FindAnswer, place: &mut u64, first: &mut u64, second: &mut u64) -> u64
-    ensures { Found got result place.new first.new second.new }
+pub fn found(
+    got: Result<Found, NotFound>,
+    place: &mut u64,
+    first: &mut u64,
+    second: &mut u64,
+) -> u64
+    ensures { ToldFound got result place.new first.new second.new }
 {
     *first = 0;
     *second = 0;
     match got {
-        FindAnswer::Found {
-            first: x,
-            second: y,
-            place: at,
-        } => {
-            *place = at as u64;
-            *first = x;
-            *second = y;
+        Ok(entry) => {
+            *place = entry.place as u64;
+            *first = entry.first;
+            *second = entry.second;
             0
         }
-        FindAnswer::NoItem => {
-            *place = 0;
-            numbers::NO_ITEM
-        }
-        FindAnswer::Absent { place: at } => {
-            *place = at as u64;
-            numbers::ABSENT
-        }
-        FindAnswer::Refused { why, place: at } => {
-            *place = at as u64;
-            numbers::refusal(why)
-        }
+        Err(cause) => match cause {
+            NotFound::NoItem => {
+                *place = 0;
+                numbers::NO_ITEM
+            }
+            NotFound::Absent { place: at } => {
+                *place = at as u64;
+                numbers::ABSENT
+            }
+            NotFound::Refused { why, place: at } => {
+                *place = at as u64;
+                numbers::refusal(why)
+            }
+        },
     }
 }
 
-pub fn compared(got: CompareAnswer, place: &mut u64, which: &mut u64, count: &mut u64) -> u64
+pub fn compared(
+    got: Result<usize, NotCompared>,
+    place: &mut u64,
+    which: &mut u64,
+    count: &mut u64,
+) -> u64
     ensures { ToldCompared got result place.new which.new count.new }
 {
     *place = 0;
     *which = 0;
     *count = 0;
     match got {
-        CompareAnswer::Done { count: pairs } => {
+        Ok(pairs) => {
             *count = pairs as u64;
             0
         }
-        CompareAnswer::Short => numbers::SHORT_LIST,
-        CompareAnswer::Refused { why, place: at } => {
-            *place = at as u64;
-            numbers::refusal(why)
-        }
-        CompareAnswer::OtherRefused { why, place: at } => {
-            *place = at as u64;
-            *which = 1;
-            numbers::refusal(why)
-        }
+        Err(cause) => match cause {
+            NotCompared::Short => numbers::SHORT_LIST,
+            NotCompared::Refused { why, place: at } => {
+                *place = at as u64;
+                numbers::refusal(why)
+            }
+            NotCompared::OtherRefused { why, place: at } => {
+                *place = at as u64;
+                *which = 1;
+                numbers::refusal(why)
+            }
+        },
     }
 }
 
@@ -261,70 +255,69 @@ pub fn fault(got: Fault, place: &mut u64) -> u64
     }
 }
 
-pub fn batch_written(got: BatchWritten, place: &mut u64) -> u64
+pub fn batch_written(got: Result<usize, Fault>, place: &mut u64) -> u64
     ensures { Told (written_says got) result place.new }
 {
     match got {
-        BatchWritten::Done { place: end } => {
+        Ok(end) => {
             *place = end as u64;
             0
         }
-        BatchWritten::Refused { why } => fault(why, place),
+        Err(why) => fault(why, place),
     }
 }
 
-pub fn batch_checked(got: BatchChecked, place: &mut u64) -> u64
+pub fn batch_checked(got: Result<(), Fault>, place: &mut u64) -> u64
     ensures { Told (checked_says got) result place.new }
 {
     match got {
-        BatchChecked::Good => {
+        Ok(()) => {
             *place = 0;
             0
         }
-        BatchChecked::Bad { why } => fault(why, place),
+        Err(why) => fault(why, place),
     }
 }
 
 // The part of a batch that a search found.
-pub fn part(got: BatchFound, place: &mut u64, from: &mut u64, len: &mut u64) -> u64
+pub fn part(got: Result<Part, Fault>, place: &mut u64, from: &mut u64, len: &mut u64) -> u64
     ensures { ToldPart got result place.new from.new len.new }
 {
     *from = 0;
     *len = 0;
     match got {
-        BatchFound::Part {
-            from: start,
-            len: size,
-        } => {
+        Ok(stretch) => {
             *place = 0;
-            *from = start as u64;
-            *len = size as u64;
+            *from = stretch.from as u64;
+            *len = stretch.len as u64;
             0
         }
-        BatchFound::Refused { why } => fault(why, place),
+        Err(why) => fault(why, place),
     }
 }
 
 // An export or an import.
-pub fn row(got: CsvAnswer, place: &mut u64) -> u64
+pub fn row(got: Result<usize, NotRows>, place: &mut u64) -> u64
     ensures { Told (csv_says got) result place.new }
 {
     match got {
-        CsvAnswer::Done { place: end } => {
+        Ok(end) => {
             *place = end as u64;
             0
         }
-        CsvAnswer::Refused { why, place: at } => {
-            *place = at as u64;
-            numbers::refusal(why)
-        }
-        CsvAnswer::Unfit => {
-            *place = 0;
-            numbers::NO_COLUMNS
-        }
-        CsvAnswer::NoRow { place: at } => {
-            *place = at as u64;
-            numbers::NO_ROW
-        }
+        Err(cause) => match cause {
+            NotRows::Refused { why, place: at } => {
+                *place = at as u64;
+                numbers::refusal(why)
+            }
+            NotRows::Unfit => {
+                *place = 0;
+                numbers::NO_COLUMNS
+            }
+            NotRows::NoRow { place: at } => {
+                *place = at as u64;
+                numbers::NO_ROW
+            }
+        },
     }
 }

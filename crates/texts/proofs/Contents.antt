@@ -7,8 +7,8 @@ use Prim.Native.Nat.{ℕ, ◌<◌, ◌≤◌}
 use native.Mathlib.Omega.{arith}
 use lib.ListN.{length}
 use Rattle.wire.specs.declared.Own.{Own}
-use Rattle.wire.specs.declared.Item.{Item}
-use Rattle.wire.specs.declared.Item.TheVariants.{Took}
+use Rattle.wire.specs.Item.{Item}
+use Rattle.wire.specs.Item.{Took}
 use Rattle.wire.specs.Tests.{both}
 use Rattle.wire.specs.Shape.{w64}
 use Rattle.wire.specs.Numbers.{most, last, varint}

@@ -2,7 +2,7 @@
 -- Assumes nothing.
 use Rattle.std.specs.Prelude.{◌≡◌, false, [], ◌∷◌}
 use Rattle.wire.specs.declared.Refusal.TheVariants.{End, BadChar}
-use Rattle.wire.specs.declared.Item.TheVariants.{Took, Refused}
+use Rattle.wire.specs.Item.{Took, Refused}
 use Rattle.wire.specs.Shape.{char}
 use Rattle.wire.specs.Reading.{read_plain}
 

@@ -1,7 +1,7 @@
 -- Each call's contract leaves no choice.
 -- Assumes nothing.
 use Rattle.std.specs.Prelude.{◌≡◌, Bool, List, ℕ}
-use Rattle.wire.specs.declared.Item.{Item}
+use Rattle.wire.specs.Item.{Item}
 use Rattle.wire.specs.Shape.{char, pooled}
 use Rattle.wire.specs.Reading.{is_content, read_plain, head}
 use Rattle.laws.specs.Unique.{Unique}

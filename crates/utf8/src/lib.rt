@@ -44,10 +44,7 @@ fn width(widths: &[[u8; 16]; 16], lead: u8) -> u8
 fn is_in(b: u8, low: u8, high: u8) -> bool
     ensures { result ≡ both (leb low b) (leb b high) }
 {
-    if b < low {
-        return false;
-    }
-    b <= high
+    low <= b && b <= high
 }
 
 // Whether a byte may follow a lead byte: four of them leave only a part of 80 to BF. By two short matches, of which the
@@ -77,16 +74,8 @@ fn after_twos(s: &[u8], from: usize) -> usize
     ensures { Behind s.now from result }
 {
     let mut i = from;
-    while 2 <= s.len() - i {
-        let lead = is_in(s[i], 0xc2, 0xdf);
-        if !lead {
-            return i;
-        }
-        let second = is_in(s[i + 1], 0x80, 0xbf);
-        if !second {
-            return i;
-        }
-        i = i + 2;
+    while 2 <= s.len() - i && is_in(s[i], 0xc2, 0xdf) && is_in(s[i + 1], 0x80, 0xbf) {
+        i += 2;
     }
     i
 }
@@ -105,11 +94,7 @@ fn starts_three(s: &[u8], at: usize) -> bool
     if lead < 0xe0 {
         return false;
     }
-    let second = is_second(lead, s[at + 1]);
-    if !second {
-        return false;
-    }
-    lead < 0xf0
+    is_second(lead, s[at + 1]) && lead < 0xf0
 }
 
 // A place behind sequences of three bytes only, likewise.
@@ -118,16 +103,8 @@ fn after_threes(s: &[u8], from: usize) -> usize
     ensures { Behind s.now from result }
 {
     let mut i = from;
-    while 3 <= s.len() - i {
-        let starts = starts_three(s, i);
-        if !starts {
-            return i;
-        }
-        let third = is_in(s[i + 2], 0x80, 0xbf);
-        if !third {
-            return i;
-        }
-        i = i + 3;
+    while 3 <= s.len() - i && starts_three(s, i) && is_in(s[i + 2], 0x80, 0xbf) {
+        i += 3;
     }
     i
 }
@@ -138,25 +115,13 @@ fn after_fours(s: &[u8], from: usize) -> usize
     ensures { Behind s.now from result }
 {
     let mut i = from;
-    while 4 <= s.len() - i {
-        let lead = s[i];
-        let is = is_in(lead, 0xf0, 0xf4);
-        if !is {
-            return i;
-        }
-        let second = is_second(lead, s[i + 1]);
-        if !second {
-            return i;
-        }
-        let third = is_in(s[i + 2], 0x80, 0xbf);
-        if !third {
-            return i;
-        }
-        let fourth = is_in(s[i + 3], 0x80, 0xbf);
-        if !fourth {
-            return i;
-        }
-        i = i + 4;
+    while 4 <= s.len() - i
+        && is_in(s[i], 0xf0, 0xf4)
+        && is_second(s[i], s[i + 1])
+        && is_in(s[i + 2], 0x80, 0xbf)
+        && is_in(s[i + 3], 0x80, 0xbf)
+    {
+        i += 4;
     }
     i
 }
@@ -227,10 +192,7 @@ fn lead_part(b: u8) -> u64
 fn over(b: u8) -> u64
     ensures { result ≡ over_of b }
 {
-    if b < 0x80 {
-        return 0;
-    }
-    (b - 0x80) as u64
+    b.saturating_sub(0x80) as u64
 }
 
 // The code point that a text starts with.
@@ -248,14 +210,8 @@ pub fn first_char(s: &[u8]) -> u64
     }
     let widths = all_widths();
     let wide = width(&widths, lead) as usize;
-    let mut i: usize = 1;
-    while i < wide {
-        if s.len() <= i {
-            return value;
-        }
-        let x = over(s[i]);
-        value = 64 * value + x;
-        i = i + 1;
+    for i in 1..wide.min(s.len()) {
+        value = 64 * value + over(s[i]);
     }
     value
 }
@@ -264,13 +220,7 @@ pub fn first_char(s: &[u8]) -> u64
 pub fn is_char(c: u64) -> bool
     ensures { result ≡ is_char c }
 {
-    if c < 0xd800 {
-        return true;
-    }
-    if c < 0xe000 {
-        return false;
-    }
-    c < 0x110000
+    c < 0xd800 || 0xe000 <= c && c < 0x110000
 }
 
 // The bytes of a code point, with zeros behind them; none where it is no char.
@@ -322,12 +272,12 @@ fn form(c: u64) -> CharBytes
 pub fn char_bytes(c: u64) -> CharBytes
     ensures { Form c result.bytes result.len }
 {
-    let is = is_char(c);
-    if is {
-        return form(c);
-    }
-    CharBytes {
-        bytes: [0, 0, 0, 0],
-        len: 0,
+    if is_char(c) {
+        form(c)
+    } else {
+        CharBytes {
+            bytes: [0; 4],
+            len: 0,
+        }
     }
 }

@@ -9,7 +9,7 @@ use native.Mathlib.Omega.{arith}
 use lib.ListN.{length}
 use borrow.Author.Tests.{le-leb, lt-leb}
 use Rattle.wire.specs.declared.Refusal.{Refusal}
-use Rattle.wire.specs.declared.Item.TheVariants.{Refused}
+use Rattle.wire.specs.Item.{Refused}
 use Rattle.wire.specs.Numbers.{most, last, low, spelled, varint_f, varint, shortest}
 use Rattle.laws.specs.Range.{span}
 use Rattle.laws.proofs.Varints.{varints, varint-small, varint-more, good, span-bits}

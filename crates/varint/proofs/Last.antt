@@ -1,20 +1,19 @@
 -- A varint is the shortest of its number exactly if it is one byte, or its last byte is not 0: by induction on its bytes.
 -- Assumes nothing.
 use mathlib.Core.Path.{◌≡◌, refl, sym, ap, ◌∙◌}
-use mathlib.Core.Bool.{Bool}
 use mathlib.Core.List.{List, [], ◌∷◌}
 use Prim.Native.Nat.{ℕ, zero, suc, ◌+◌, ◌-◌, ◌*◌, ◌/◌, ◌%◌, ◌≤◌, ◌<◌}
 use native.Mathlib.Omega.{arith}
 use lib.Dec.{ltb, leb, eqb}
 use lib.ListN.{length, get_or}
 use borrow.Author.Tests.{leb-true, ltb-true, lt-ltb, le-ltb, eq-eqb, ne_eqb}
-use Rattle.wire.specs.declared.Item.{Item}
-use Rattle.wire.specs.declared.Item.TheVariants.{Took, Refused}
+use Rattle.wire.specs.Item.{Item}
+use Rattle.wire.specs.Item.{Took, Refused}
 use Rattle.wire.specs.Tests.{pick}
 use Rattle.wire.specs.Numbers.{most, spelled, low, varint_f, shortest_f, shortest}
 use Rattle.laws.proofs.Splits.{by-lt, by_le, by-eq, of-pick}
 use Rattle.laws.proofs.Varints.{in-range, varint-small, varint-more, shortest-small, shortest-more}
-use Rattle.varint.specs.Takes.{limit_of, takes, ends_short, ShortestByLast}
+use Rattle.varint.specs.Takes.{limit_of, takes, ends_short, spelled_by, ShortestByLast}
 use Rattle.varint.proofs.Reading.{limit-none, limit-some, limit-ten, limit-many}
 
 -- n bytes were read as x, whose shortest varint is y, and the last of them is z
@@ -118,8 +117,7 @@ shortest-by-last k top s own =
     (λ h e. cc)
 
 -- so the code may say which form it is by the last byte
-pub by_last : (k top : ℕ) (s : List ℕ) (x i : ℕ) (short : Bool) → spelled x (i + 1) ≡ takes k top s → short ≡ ends_short (i + 1) (get_or s i 0)
-    → Took (record { first = x; second = 0; used = i + 1; shortest = short }) ≡ takes k top s
-by_last k top s x i short e p =
+pub by_last : (k top : ℕ) (s : List ℕ) (x i : ℕ) → spelled x (i + 1) ≡ takes k top s → Took (spelled_by x (i + 1) (get_or s i 0)) ≡ takes k top s
+by_last k top s x i e =
     let back : i + 1 - 1 ≡ i = omega arith in
-    ap (λ is. Took (record { first = x; second = 0; used = i + 1; shortest = is })) (p ∙ sym (rw back at (shortest-by-last k top s _ (sym e)))) ∙ e
+    ap (λ is. Took (record { first = x; second = 0; used = i + 1; shortest = is })) (sym (rw back at (shortest-by-last k top s _ (sym e)))) ∙ e

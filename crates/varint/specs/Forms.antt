@@ -2,7 +2,7 @@
 -- Assumes nothing.
 use Rattle.std.specs.Prelude.{◌≡◌, List, [], ◌∷◌, ◌++◌, ℕ, zero, suc, ◌+◌, ◌/◌, ◌%◌, ◌^◌, ◌<◌, ◌≤◌, length}
 use Rattle.wire.specs.declared.Refusal.TheVariants.{End, BadVarint}
-use Rattle.wire.specs.declared.Item.TheVariants.{Refused}
+use Rattle.wire.specs.Item.{Refused}
 use Rattle.wire.specs.Shape.{Width, w16, bits}
 use Rattle.wire.specs.Numbers.{most, last, spelled, varint, took}
 

@@ -3,8 +3,8 @@
 use Rattle.std.specs.Prelude.{◌≡◌, List, Bool, true, ℕ, ◌-◌, get_or, ltb, leb, eqb}
 use Rattle.wire.specs.declared.Refusal.TheVariants.{BadVarint}
 use Rattle.wire.specs.declared.Own.{Own}
-use Rattle.wire.specs.declared.Item.{Item}
-use Rattle.wire.specs.declared.Item.TheVariants.{Took, Refused}
+use Rattle.wire.specs.Item.{Item}
+use Rattle.wire.specs.Item.{Took, Refused}
 use Rattle.wire.specs.Tests.{pick, both}
 use Rattle.wire.specs.Shape.{Width}
 use Rattle.wire.specs.Numbers.{most, last, varint_f, varint}
@@ -20,6 +20,9 @@ takes k top s = pick (ltb top (limit_of k)) (varint_f k top s) (Refused BadVarin
 -- a varint of so many bytes, of which b is the last, is the shortest of its number: it is one byte, or b is not 0
 unfoldable pub ends_short : (used b : ℕ) → Bool
 ends_short used b = pick (eqb used 1) true (ltb 0 b)
+
+abbrev pub spelled_by : (first used b : ℕ) → Own
+spelled_by first used b = record { first = first; second = 0; used = used; shortest = ends_short used b }
 
 -- and so it is said of what is taken
 abbrev pub ShortestByLast : Type 0

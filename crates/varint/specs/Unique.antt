@@ -1,7 +1,7 @@
 -- Each call's contract leaves no choice.
 -- Assumes nothing.
 use Rattle.std.specs.Prelude.{◌≡◌, List, ℕ, length}
-use Rattle.wire.specs.declared.Item.{Item}
+use Rattle.wire.specs.Item.{Item}
 use Rattle.wire.specs.Shape.{Width}
 use Rattle.wire.specs.Numbers.{varint, shortest}
 use Rattle.laws.specs.Unique.{Unique}

@@ -1,15 +1,25 @@
 // Varints of three widths: low seven bits first, high bit set if more follow.
 #![tactic(auto)]
 
-ghost use Rattle.std.specs.Prelude.{◌≡◌, ◌+◌, length, set};
+ghost use Rattle.std.specs.Prelude.{◌≡◌, ℕ, ◌+◌, length, set};
 ghost use Rattle.wire.specs.Shape.{w16, w32};
 ghost use Rattle.wire.specs.Numbers.{varint, shortest};
-ghost use Rattle.varint.specs.Takes.{limit_of, takes, ends_short};
+ghost use Rattle.varint.specs.Takes.{limit_of, takes, spelled_by};
 ghost use Rattle.varint.specs.Put.{Put};
 
-use wire::{Item, Own, Refusal};
+use wire::{Own, Refusal};
 
-// Each width owns two constants: the most bytes, and the largest byte that may stand last there.
+// What a width allows: the most bytes, and the largest byte that may stand last in so many.
+pub trait Width {
+    const MOST: usize;
+
+    const LAST: u64;
+
+    ghost MOST: { ℕ };
+
+    ghost LAST: { ℕ };
+}
+
 #[derive(Clone, Copy)]
 pub struct U16;
 
@@ -19,22 +29,34 @@ pub struct U32;
 #[derive(Clone, Copy)]
 pub struct U64;
 
-impl U16 {
-    pub const MOST: usize = 3;
+impl Width for U16 {
+    const MOST: usize = 3;
 
-    pub const LAST: u64 = 3;
+    const LAST: u64 = 3;
+
+    ghost MOST = { 3 };
+
+    ghost LAST = { 3 };
 }
 
-impl U32 {
-    pub const MOST: usize = 5;
+impl Width for U32 {
+    const MOST: usize = 5;
 
-    pub const LAST: u64 = 15;
+    const LAST: u64 = 15;
+
+    ghost MOST = { 5 };
+
+    ghost LAST = { 15 };
 }
 
-impl U64 {
-    pub const MOST: usize = 10;
+impl Width for U64 {
+    const MOST: usize = 10;
 
-    pub const LAST: u64 = 1;
+    const LAST: u64 = 1;
+
+    ghost MOST = { 10 };
+
+    ghost LAST = { 1 };
 }
 
 // What the last of `most` bytes must be below for every value to fit a word.
@@ -48,89 +70,64 @@ fn limit(most: usize) -> u64
     }
 }
 
-// Whether a varint of so many bytes, of which `b` is the last, is the shortest of its number.
-fn is_shortest(used: usize, b: u64) -> bool
-    ensures { result ≡ ends_short used b }
+// A number in so many bytes, of which `b` is the last: the shortest of its forms is one byte, or ends in one that is not 0.
+fn ended(first: u64, used: usize, b: u64) -> Own
+    ensures { result ≡ spelled_by first used b }
 {
-    if used == 1 {
-        return true;
+    Own {
+        first,
+        second: 0,
+        used,
+        shortest: used == 1 || 0 < b,
     }
-    0 < b
 }
 
-// A varint of at most `most` bytes at the start of `part`, of which the last allowed is at most `last`. At a width's
-// constants the compiler folds the test: a caller that must be fast names them here.
-pub fn take(part: &[u8], most: usize, last: u64) -> Item
-    ensures { result ≡ takes most last part.now }
+// A varint of a width at the start of `part`. The compiler makes a function of its own for each width, in which it folds the
+// tests of the constants.
+pub fn take<W: Width>(part: &[u8]) -> Result<Own, Refusal>
+    ensures { result ≡ takes W.MOST W.LAST part.now }
 {
-    if limit(most) <= last {
-        return Item::Refused {
-            why: Refusal::BadVarint,
-        };
+    if limit(W::MOST) <= W::LAST {
+        return Err(Refusal::BadVarint);
     }
     let mut value: u64 = 0;
     let mut scale: u64 = 1;
-    let mut i: usize = 0;
-    while i < part.len() {
-        let b = part[i] as u64;
-        let next = i + 1;
-        if next == most {
-            if b <= last {
-                let whole = value + scale * b;
-                let shortest = is_shortest(next, b);
-                return Item::Took {
-                    own: Own {
-                        first: whole,
-                        second: 0,
-                        used: next,
-                        shortest,
-                    },
-                };
+    for (i, byte) in part.iter().enumerate() {
+        let b = *byte as u64;
+        let used = i + 1;
+        if used == W::MOST {
+            if W::LAST < b {
+                return Err(Refusal::BadVarint);
             }
-            return Item::Refused {
-                why: Refusal::BadVarint,
-            };
+            return Ok(ended(value + scale * b, used, b));
         }
-        let sum = value + scale * (b % 128);
+        value += scale * (b % 128);
         if b < 128 {
-            let shortest = is_shortest(next, b);
-            return Item::Took {
-                own: Own {
-                    first: sum,
-                    second: 0,
-                    used: next,
-                    shortest,
-                },
-            };
+            return Ok(ended(value, used, b));
         }
-        value = sum;
-        scale = scale * 128;
-        i = next;
+        scale *= 128;
     }
-    Item::Refused { why: Refusal::End }
+    Err(Refusal::End)
 }
 
-pub fn take_u16(part: &[u8]) -> Item
+pub fn take_u16(part: &[u8]) -> Result<Own, Refusal>
     ensures { result ≡ varint w16 part.now }
 {
-    take(part, U16::MOST, U16::LAST)
+    take::<U16>(part)
 }
 
-pub fn take_u32(part: &[u8]) -> Item
+pub fn take_u32(part: &[u8]) -> Result<Own, Refusal>
     ensures { result ≡ varint w32 part.now }
 {
-    take(part, U32::MOST, U32::LAST)
+    take::<U32>(part)
 }
 
 // Stores a byte at the n-th place behind `at`, if `out` has that place.
 fn put_byte(out: &mut [u8], at: usize, n: usize, b: u8)
     ensures { out.new ≡ set out.old (at + n) b }
 {
-    if at < out.len() {
-        if n < out.len() - at {
-            let i = at + n;
-            out[i] = b;
-        }
+    if at < out.len() && n < out.len() - at {
+        out[at + n] = b;
     }
 }
 

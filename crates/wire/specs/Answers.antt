@@ -2,23 +2,23 @@
 -- Letters: s bytes, p and q places, i the number of a node or an entry, n how many entries, a and b an entry's words, e an entry,
 -- k a kind's number, l a layout, x a spot, r a run, y yes or no.
 -- Assumes nothing.
-use Rattle.std.specs.Prelude.{Bool, true, false, List, [], ◌∷◌, ◌++◌, ℕ, ◌+◌, ◌/◌, ◌%◌, length, drop, replicate, leb, ltb, eqb}
+use Rattle.std.specs.Prelude.{Bool, true, false, List, [], ◌∷◌, ◌++◌, ℕ, ◌+◌, ◌/◌, ◌%◌, length, drop, replicate, leb, ltb, eqb, Err, Ok}
 use Rattle.wire.specs.declared.Refusal.{Refusal}
 use Rattle.wire.specs.declared.Refusal.TheVariants.{Trailer, Record, End, BadVarint, BadBool, BadChar, BadUtf8, BadOption, Variant, Room, Values, Full, NotShortest}
-use Rattle.wire.specs.declared.Checked.{Checked}
-use Rattle.wire.specs.declared.Checked.TheVariants.{Good, Bad}
-use Rattle.wire.specs.declared.Item.{Item}
-use Rattle.wire.specs.declared.Item.TheVariants.{Took, Refused}
-use Rattle.wire.specs.declared.ReadAnswer.{ReadAnswer}
-use Rattle.wire.specs.declared.ReadAnswer.TheVariants.{Done as Read, Refused as NotRead}
-use Rattle.wire.specs.declared.WriteAnswer.{WriteAnswer}
-use Rattle.wire.specs.declared.WriteAnswer.TheVariants.{Done as Written, Refused as NotWritten}
-use Rattle.wire.specs.declared.TakeAnswer.{TakeAnswer}
-use Rattle.wire.specs.declared.TakeAnswer.TheVariants.{Done as Taken, Refused as NotTaken}
+use Rattle.wire.specs.Checked.{Checked}
+use Rattle.wire.specs.Checked.{Good, Bad}
+use Rattle.wire.specs.Item.{Item}
+use Rattle.wire.specs.Item.{Took, Refused}
+use Rattle.wire.specs.ReadAnswer.{ReadAnswer}
+use Rattle.wire.specs.ReadAnswer.{Done as Read, Refused as NotRead}
+use Rattle.wire.specs.WriteAnswer.{WriteAnswer}
+use Rattle.wire.specs.WriteAnswer.{Done as Written, Refused as NotWritten}
+use Rattle.wire.specs.TakeAnswer.{TakeAnswer}
+use Rattle.wire.specs.TakeAnswer.{Done as Taken, Refused as NotTaken}
 use Rattle.wire.specs.declared.Side.{Side}
 use Rattle.wire.specs.declared.Side.TheVariants.{Old, New}
-use Rattle.wire.specs.declared.AskAnswer.{AskAnswer}
-use Rattle.wire.specs.declared.AskAnswer.TheVariants.{Says, Refused as NotAsked, ShortArea}
+use Rattle.wire.specs.AskAnswer.{AskAnswer}
+use Rattle.wire.specs.AskAnswer.{Says, Refused as NotAsked, ShortArea}
 use Rattle.wire.specs.declared.FeedAnswer.{FeedAnswer}
 use Rattle.wire.specs.declared.FeedAnswer.TheVariants.{Consumed, OverFull, BadFrame, Frame, BadState}
 use Rattle.wire.specs.Tests.{pick, given, both}
@@ -76,19 +76,19 @@ done p = record { number = 0; place = p }
 
 unfoldable pub check_says : Checked → Numbered
 check_says (Good l) = done 0
-check_says (Bad why i) = numbered why i
+check_says (Err r) = numbered r.why r.place
 
 unfoldable pub read_says : ReadAnswer → Numbered
-read_says (Read p n) = done p
-read_says (NotRead why p n) = numbered why p
+read_says (Ok r) = done r.place
+read_says (Err r) = numbered r.why r.place
 
 unfoldable pub write_says : WriteAnswer → Numbered
 write_says (Written p) = done p
-write_says (NotWritten why p) = numbered why p
+write_says (Err r) = numbered r.why r.place
 
 unfoldable pub take_says : TakeAnswer → Numbered
-take_says (Taken a b at p) = done p
-take_says (NotTaken why p) = numbered why p
+take_says (Ok r) = done r.place
+take_says (Err r) = numbered r.why r.place
 
 unfoldable pub ask_says : AskAnswer → Numbered
 ask_says (Says y) = done 0
@@ -127,7 +127,7 @@ store_with es store = words es ++ drop (length (words es)) store
 -- what a table makes of a message, with room for so many entries, strictly or not
 unfoldable pub read_by : (strict : Bool) → Checked → List ℕ → ℕ → List ℕ → Run
 read_by strict (Good l) table room message = fit room (walk (reading (head_by strict)) (shape_of table l) (front message))
-read_by strict (Bad why i) table room message = record { made = []; ends = refused why i }
+read_by strict (Err r) table room message = record { made = []; ends = refused r.why r.place }
 
 unfoldable pub reads : List ℕ → List ℕ → List ℕ → Run
 reads table message store = read_by false (check table) table (room_of store) message
@@ -151,8 +151,8 @@ skims table message room = run_answer (read_by false (check table) table room me
 
 -- the unread bytes: none on a refusal, and none where the answer points beyond the message
 unfoldable pub rest_of : List ℕ → ReadAnswer → List ℕ
-rest_of message (Read p n) = drop p message
-rest_of message (NotRead why p n) = []
+rest_of message (Ok r) = drop r.place message
+rest_of message (Err r) = []
 
 -- ---- one item of a kind that is 0 to 13 or 20 to 31
 
@@ -171,8 +171,8 @@ takes k message p =
 
 -- the place of the record after that: behind the item, or as it was
 unfoldable pub place_after : ℕ → TakeAnswer → ℕ
-place_after p (Taken a b at q) = q
-place_after p (NotTaken why q) = p
+place_after p (Ok r) = r.place
+place_after p (Err r) = p
 
 -- ---- writing
 
@@ -195,7 +195,7 @@ write_by (Good l) table ws pool limit =
     given (eqb (length ws % words_per) 0)
     (λ _. formed limit (write (shape_of table l) pool (record { at = 0; entries = entries_of ws })))
     (no_form Values (length ws / words_per))
-write_by (Bad why i) table ws pool limit = no_form why i
+write_by (Err r) table ws pool limit = no_form r.why r.place
 
 unfoldable pub writes : List ℕ → List ℕ → List ℕ → ℕ → Form
 writes table ws pool limit = write_by (check table) table ws pool limit
@@ -214,8 +214,8 @@ out_with (no_form why p) out = out
 -- yes or no of two good tables; the old table is refused before the new one
 unfoldable pub ask_by : Checked → Checked → List ℕ → List ℕ → AskAnswer
 ask_by (Good l) (Good l') old new = Says (appends (shape_of old l) (shape_of new l'))
-ask_by (Good l) (Bad why i) old new = NotAsked New why i
-ask_by (Bad why i) checked old new = NotAsked Old why i
+ask_by (Good l) (Err r) old new = NotAsked New r.why r.place
+ask_by (Err r) checked old new = NotAsked Old r.why r.place
 
 -- the work area: one bit a pair of 4,096 nodes
 unfoldable pub area_bytes : ℕ

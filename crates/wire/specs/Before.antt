@@ -3,8 +3,8 @@
 use Rattle.std.specs.Prelude.{Bool, List, ℕ, zero, suc, ◌+◌, ◌-◌, ◌/◌, length, leb, eqb}
 use Rattle.wire.specs.declared.Refusal.TheVariants.{Trailer, Record}
 use Rattle.wire.specs.declared.Layout.{Layout}
-use Rattle.wire.specs.declared.Checked.{Checked}
-use Rattle.wire.specs.declared.Checked.TheVariants.{Good, Bad}
+use Rattle.wire.specs.Checked.{Checked}
+use Rattle.wire.specs.Checked.{Good, Bad}
 use Rattle.wire.specs.Tests.{given, both}
 use Rattle.wire.specs.Table.{u16_at, good_numbers, node_at, record_of, good_node}
 

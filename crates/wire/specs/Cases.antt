@@ -1,16 +1,16 @@
 -- Document 01's cases, and some of our own, as data: a call, and what it must answer and leave in lent memory.
 -- Assumes nothing.
-use Rattle.std.specs.Prelude.{◌≡◌, Bool, true, false, List, [], ◌∷◌, ◌++◌, ℕ, ◌+◌, ◌-◌, ◌*◌, length, take, drop, replicate}
+use Rattle.std.specs.Prelude.{◌≡◌, Bool, true, false, List, [], ◌∷◌, ◌++◌, ℕ, ◌+◌, ◌-◌, ◌*◌, length, take, drop, replicate, Err, Ok}
 use mathlib.Core.List as lists
 use Rattle.std.proofs.Math.Option.{some}
 use Rattle.wire.specs.declared.Ending.{Ending}
-use Rattle.wire.specs.declared.Checked.{Checked}
-use Rattle.wire.specs.declared.Checked.TheVariants.{Good, Bad}
-use Rattle.wire.specs.declared.ReadAnswer.{ReadAnswer}
-use Rattle.wire.specs.declared.TakeAnswer.{TakeAnswer}
-use Rattle.wire.specs.declared.TakeAnswer.TheVariants.{Done as Taken, Refused as NotTaken}
-use Rattle.wire.specs.declared.AskAnswer.{AskAnswer}
-use Rattle.wire.specs.declared.AskAnswer.TheVariants.{Says, Refused as NotAsked, ShortArea}
+use Rattle.wire.specs.Checked.{Checked}
+use Rattle.wire.specs.Checked.{Good, Bad}
+use Rattle.wire.specs.ReadAnswer.{ReadAnswer}
+use Rattle.wire.specs.TakeAnswer.{TakeAnswer}
+use Rattle.wire.specs.TakeAnswer.{Done as Taken, Refused as NotTaken}
+use Rattle.wire.specs.AskAnswer.{AskAnswer}
+use Rattle.wire.specs.AskAnswer.{Says, Refused as NotAsked, ShortArea}
 use Rattle.wire.specs.Table.{first, second, good_trailer, short_chain, check, shape_of}
 use Rattle.wire.specs.Values.{number, content, Valued, whole, too_short, unknown, values}
 use Rattle.wire.specs.Reading.{Run}
@@ -46,15 +46,15 @@ read_run r message store = read_said r (read_answer r.ends (length r.made)) mess
 
 -- the answer, the entry's words, and the record's place behind it
 unfoldable pub took_said : ℕ → TakeAnswer → Said
-took_said p (Taken a b at q) = took 0 q a b at (place_after p (Taken a b at q))
-took_said p (NotTaken why q) = took (refusal_number why) q 0 0 0 (place_after p (NotTaken why q))
+took_said p (Ok r) = took 0 r.place r.first r.second r.at (place_after p (Taken r.first r.second r.at r.place))
+took_said p (Err r) = took (refusal_number r.why) r.place 0 0 0 (place_after p (NotTaken r.why r.place))
 
 unfoldable pub wrote_form : Form → List ℕ → Said
 wrote_form made out = wrote (write_says (write_answer made)).number (write_says (write_answer made)).place (out_with made out)
 
 unfoldable pub values_by : Checked → List ℕ → List ℕ → List ℕ → Said
 values_by (Good l) table ws pool = are (values (shape_of table l) pool (entries_of ws))
-values_by (Bad why i) table ws pool = bad_table
+values_by (Err r) table ws pool = bad_table
 
 unfoldable pub is_yes : AskAnswer → Bool
 is_yes (Says y) = y

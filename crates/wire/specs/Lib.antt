@@ -14,3 +14,9 @@ pub mod Answers
 pub mod Sending
 pub mod Cases
 pub mod SendingCases
+pub mod Item
+pub mod Checked
+pub mod ReadAnswer
+pub mod WriteAnswer
+pub mod TakeAnswer
+pub mod AskAnswer

@@ -6,8 +6,8 @@ use Rattle.std.specs.Prelude.{Bool, true, false, List, [], ◌∷◌, ℕ, zero,
 use Rattle.wire.specs.declared.Refusal.TheVariants.{Trailer, Record}
 use Rattle.wire.specs.declared.Ending.{Ending}
 use Rattle.wire.specs.declared.Layout.{Layout}
-use Rattle.wire.specs.declared.Checked.{Checked}
-use Rattle.wire.specs.declared.Checked.TheVariants.{Good, Bad}
+use Rattle.wire.specs.Checked.{Checked}
+use Rattle.wire.specs.Checked.{Good, Bad}
 use Rattle.wire.specs.Tests.{pick, given, both}
 use Rattle.wire.specs.Shape.{w16, w32, w64, le, be, signed, unsigned, bool, i8, u8, f32, f64, char, unit, int, fixed, text, raw, Kind, plain, pooled, option, sequence, map, struct, enum, Shape, node, Shapes, none, more, depth}
 

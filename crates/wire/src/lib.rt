@@ -19,6 +19,13 @@ pub enum Refusal {
     NotShortest,
 }
 
+// Why a call refuses, and where.
+#[derive(Clone, Copy)]
+pub struct RefusedAt {
+    pub why: Refusal,
+    pub place: usize,
+}
+
 // A table's trailer, of either form: C, D, how many nodes there are, the root and the mark.
 #[derive(Clone, Copy)]
 pub struct Ending {
@@ -39,13 +46,6 @@ pub struct Layout {
     pub root: usize,
 }
 
-// What a table's check answers: where its parts stand, or why it is refused and at which node.
-#[derive(Clone, Copy)]
-pub enum Checked {
-    Good { layout: Layout },
-    Bad { why: Refusal, place: usize },
-}
-
 // What was read of an item's own bytes: whether that was the shortest form, its two words, and how many bytes it took. The
 // mark stands first: the compiler keeps an item in registers only so.
 #[derive(Clone, Copy)]
@@ -56,48 +56,28 @@ pub struct Own {
     pub used: usize,
 }
 
-// An item: what was read of its own bytes, or why it is refused.
+// How far a reading came: the bytes read, and the entries made.
 #[derive(Clone, Copy)]
-pub enum Item {
-    Took { own: Own },
-    Refused { why: Refusal },
+pub struct Reached {
+    pub place: usize,
+    pub count: usize,
 }
 
-// How a reading ends: the bytes read, or a refusal and its place; and the entries made.
+// Why a reading stops and where, and the entries made.
 #[derive(Clone, Copy)]
-pub enum ReadAnswer {
-    Done {
-        place: usize,
-        count: usize,
-    },
-    Refused {
-        why: Refusal,
-        place: usize,
-        count: usize,
-    },
+pub struct Stopped {
+    pub why: Refusal,
+    pub place: usize,
+    pub count: usize,
 }
 
-// How a writing ends: the bytes written, or a refusal and its place.
+// An item that was taken: its entry, which is two words and the place where it stands, and the place behind it.
 #[derive(Clone, Copy)]
-pub enum WriteAnswer {
-    Done { place: usize },
-    Refused { why: Refusal, place: usize },
-}
-
-// How the taking of one item ends: its entry, which is two words and the place where it stands, and the place behind it;
-// or a refusal and its place.
-#[derive(Clone, Copy)]
-pub enum TakeAnswer {
-    Done {
-        first: u64,
-        second: u64,
-        at: usize,
-        place: usize,
-    },
-    Refused {
-        why: Refusal,
-        place: usize,
-    },
+pub struct Taken {
+    pub first: u64,
+    pub second: u64,
+    pub at: usize,
+    pub place: usize,
 }
 
 // One of the append question's two tables.
@@ -107,13 +87,10 @@ pub enum Side {
     New,
 }
 
-// What the append question answers: yes or no; or which table is refused, why and at which node; or that its work area is too short.
+// Why the append question gets no answer: which table is refused, why and at which node; or its work area is too short.
 #[derive(Clone, Copy)]
-pub enum AskAnswer {
-    Says {
-        yes: bool,
-    },
-    Refused {
+pub enum NotAsked {
+    Table {
         side: Side,
         why: Refusal,
         place: usize,

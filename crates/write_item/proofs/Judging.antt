@@ -8,7 +8,7 @@ use Prim.Native.Nat.{ℕ, ◌+◌, ◌-◌, ◌<◌, ◌≤◌}
 use native.Mathlib.Omega.{arith}
 use lib.ListN.{length, take, drop}
 use lib.Dec.{ltb, leb, eqb}
-use borrow.Author.Tests.{lt-ltb, le-ltb, le-leb, lt-leb, leb-true, eqb-true, eqb-false}
+use borrow.Author.Tests.{lt-ltb, le-leb, lt-leb, leb-true, eqb-true, eqb-false}
 use Rattle.wire.specs.Tests.{pick, both}
 use Rattle.wire.specs.Shape.{bits, signed, unsigned, Plain, bool, i8, u8, f32, f64, char, unit, int, fixed, Kind, plain, pooled, option, sequence, map, struct, enum}
 use Rattle.wire.specs.Numbers.{is_word}
@@ -148,10 +148,6 @@ module _ {n a : ℕ} {r : Bool} where
 pub is_known_lem : (n a : ℕ) (t : Bool) → a < n → t ≡ both (ltb a n) t
 unfolding both
 is_known_lem n a t h = rw (lt-ltb a n h)
-
-pub not_known : (n a : ℕ) (t : Bool) → n ≤ a → false ≡ both (ltb a n) t
-unfolding both
-not_known n a t h = rw (le-ltb a n h)
 
 -- ---- texts and bytes
 

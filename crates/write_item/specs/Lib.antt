@@ -1,2 +1,3 @@
 -- What the contracts of an item's own bytes cite.
 pub mod Own
+pub mod Pooled

@@ -9,8 +9,8 @@ use Rattle.wire.specs.Writing.{head_bytes}
 use Rattle.wire.specs.Answers.{room_of}
 use Rattle.entry.specs.Words.{first_at, second_at}
 use Rattle.output.specs.Bytes.{Puts}
-use Rattle.write_item.specs.declared.Pooled.{Pooled}
-use Rattle.write_item.specs.declared.Pooled.TheVariants.{Put, Misfit}
+use Rattle.write_item.specs.Pooled.{Pooled}
+use Rattle.write_item.specs.Pooled.{Put, Misfit}
 
 -- six integers in the order of their kinds
 unfoldable pub sign_at : ℕ → Sign

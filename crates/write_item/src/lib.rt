@@ -3,7 +3,7 @@
 
 ghost use Rattle.std.specs.Prelude.{◌≡◌, true, false, [], ◌+◌, ◌≤◌, length, ltb, leb};
 ghost use Rattle.wire.specs.Tests.{both};
-ghost use Rattle.wire.specs.Shape.{bits, size, w16, w32, w64, unsigned};
+ghost use Rattle.wire.specs.Shape.{bits, size, unsigned};
 ghost use Rattle.wire.specs.Numbers.{is_word, little_bytes, in_order};
 ghost use Rattle.wire.specs.Text.{is_char, char_bytes};
 ghost use Rattle.wire.specs.Table.{kind_of};
@@ -17,6 +17,8 @@ ghost use Rattle.fixint.specs.Sizes.{order_of};
 ghost use Rattle.texts.specs.Contents.{content_if};
 ghost use Rattle.output.specs.Bytes.{Puts};
 ghost use Rattle.write_item.specs.Own.{sign_at, width_at, is_some, Known, JudgesLeaf, Judges, Lets, Fits, Ready, Spells, SpellsEntry, Pools};
+
+use varint::{U64, Width};
 
 // ---- chars, texts and bytes
 
@@ -69,50 +71,14 @@ fn is_sixth(k: u8, first: u64) -> bool
     }
 }
 
-fn two(first: u64, big: bool) -> [u8; 2]
-    ensures { result ≡ in_order (order_of big) (little_bytes (size w16) first) }
-{
-    if big {
-        return fixint::be2(first);
-    }
-    fixint::le2(first)
-}
-
-fn four(first: u64, big: bool) -> [u8; 4]
-    ensures { result ≡ in_order (order_of big) (little_bytes (size w32) first) }
-{
-    if big {
-        return fixint::be4(first);
-    }
-    fixint::le4(first)
-}
-
-fn eight(first: u64, big: bool) -> [u8; 8]
-    ensures { result ≡ in_order (order_of big) (little_bytes (size w64) first) }
-{
-    if big {
-        return fixint::be8(first);
-    }
-    fixint::le8(first)
-}
-
 // The bytes of a number of the k-th, of fixed size.
 fn put_sixth(k: u8, big: bool, first: u64, out: &mut [u8], used: usize) -> usize
     ensures { Puts (in_order (order_of big) (little_bytes (size (width_at k)) first)) used out.old result out.new }
 {
     match k % 3 {
-        0 => {
-            let a = two(first, big);
-            output::put_bytes(&a, out, used)
-        }
-        1 => {
-            let a = four(first, big);
-            output::put_bytes(&a, out, used)
-        }
-        _ => {
-            let a = eight(first, big);
-            output::put_bytes(&a, out, used)
-        }
+        0 => output::put_bytes(&fixint::bytes::<2>(first, big), out, used),
+        1 => output::put_bytes(&fixint::bytes::<4>(first, big), out, used),
+        _ => output::put_bytes(&fixint::bytes::<8>(first, big), out, used),
     }
 }
 
@@ -174,10 +140,7 @@ fn fits_part(first: u64, second: u64, pool: &[u8], text: bool) -> bool
     ensures { result ≡ both (leb (first + second) (length pool.now)) (is_content (content_if text) (part_of pool.now first second)) }
 {
     let len = pool.len() as u64;
-    if len < first {
-        return false;
-    }
-    if len - first < second {
+    if len < first || len - first < second {
         return false;
     }
     let start = first as usize;
@@ -194,12 +157,7 @@ fn fits_rest(number: u8, first: u64, second: u64, pool: &[u8]) -> bool
     match number {
         12 => fits_part(first, second, pool, true),
         13 => fits_part(first, second, pool, false),
-        _ => {
-            if second == 0 {
-                return fits_other(number, first);
-            }
-            false
-        }
+        _ => second == 0 && fits_other(number, first),
     }
 }
 
@@ -224,10 +182,7 @@ pub fn fits_leaf(number: u8, first: u64, second: u64, pool: &[u8], judged: bool)
 fn is_variant(width: usize, first: u64) -> bool
     ensures { result ≡ both (ltb first width) (is_word unsigned 32 first) }
 {
-    if first < width as u64 {
-        return first < 0x1_0000_0000;
-    }
-    false
+    first < width as u64 && first < 0x1_0000_0000
 }
 
 // That of an item with so many children, whose second word is 0.
@@ -342,13 +297,6 @@ pub fn put_leaf(
 
 // ---- a text or bytes, judged and put at once
 
-// So many bytes there are now, or that no value has the entry.
-#[derive(Clone, Copy)]
-pub enum Pooled {
-    Put { used: usize },
-    Misfit,
-}
-
 pub fn put_pooled(
     number: u8,
     first: u64,
@@ -356,30 +304,28 @@ pub fn put_pooled(
     pool: &[u8],
     out: &mut [u8],
     used: usize,
-) -> Pooled
+) -> Option<usize>
     requires { (12 ≤ number) × (number ≤ 13) }
     ensures { Pools number pool.now first second used out.old result out.new }
 {
     let ok = fits_part(first, second, pool, number == 12);
-    if ok {
-        let more = put_part(first, second, pool, out, used);
-        return Pooled::Put { used: more };
+    if !ok {
+        return None;
     }
-    Pooled::Misfit
+    Some(put_part(first, second, pool, out, used))
 }
 
 // The same, with no place for any byte: it is judged, and its bytes are counted.
-pub fn measure_pooled(number: u8, first: u64, second: u64, pool: &[u8]) -> Pooled
+pub fn measure_pooled(number: u8, first: u64, second: u64, pool: &[u8]) -> Option<usize>
     requires { (12 ≤ number) × (number ≤ 13) }
     ensures { Pools number pool.now first second 0 [] result [] }
 {
     let fits = fits_part(first, second, pool, number == 12);
-    if fits {
-        let size = varint::size(second);
-        let used = output::add(size, second as usize);
-        return Pooled::Put { used };
+    if !fits {
+        return None;
     }
-    Pooled::Misfit
+    let size = varint::size(second);
+    Some(output::add(size, second as usize))
 }
 
 // ---- an integer that has its places
@@ -391,7 +337,7 @@ pub fn is_ready(number: u8, words: &[u64], at: usize, room: usize) -> bool
     if 9 <= number {
         return false;
     }
-    if room < varint::U64::MOST {
+    if room < U64::MOST {
         return false;
     }
     if entry::room(words.len()) <= at {

@@ -7,24 +7,24 @@ use Prim.Native.Nat.{ℕ, ◌+◌, ◌^◌, ◌<◌, ◌≤◌}
 use native.Mathlib.Omega.{arith}
 use lib.ListN.{length}
 use Rattle.wire.specs.declared.Layout.{Layout}
-use Rattle.wire.specs.declared.Checked.TheVariants.{Good}
+use Rattle.wire.specs.Checked.{Good}
 use Rattle.wire.specs.Table.{kind_of, node_at, record_of, shape_of, check}
 use Rattle.wire.specs.Writing.{Wrote, misfit, head_bytes, writing, write}
 use Rattle.wire.specs.Answers.{room_of}
 use Rattle.laws.specs.KindRanges.{IsLeaf}
 use Rattle.laws.specs.Tables.{GoodTable}
 use Rattle.laws.proofs.Tables.{good-table}
-use Rattle.write_item.specs.declared.Pooled.{Pooled}
-use Rattle.write_item.specs.declared.Pooled.TheVariants as pooled
+use Rattle.write_item.specs.Pooled.{Pooled}
+use Rattle.write_item.specs.Pooled as pooled
 use Rattle.write_item.specs.Own.{is_some, Fitting, SpellsEntry, Spells, Pools}
-use Rattle.write_list.specs.declared.Put.{Put}
-use Rattle.write_list.specs.declared.Put.TheVariants.{Done, Misfit}
+use Rattle.write_list.specs.Put.{Put}
+use Rattle.write_list.specs.Put.{Done, Misfit}
 use Rattle.table.specs.declared.Way.{Way}
 use Rattle.table.specs.Parts.{under, node_step, row_step}
 use Rattle.table.proofs.Stretches.{row-end, root-falls}
 use Rattle.write_list.specs.declared.Ahead.{Ahead}
-use Rattle.write_list.specs.declared.Begun.{Begun}
-use Rattle.write_list.specs.declared.Begun.TheVariants.{At}
+use Rattle.write_list.specs.Begun.{Begun}
+use Rattle.write_list.specs.Begun.{At}
 use Rattle.write_list.specs.Steps.{entries, write_leaf, Gives, Begins, Leads, LeafPut, Leaf, Reaches, Nothing}
 use Rattle.entry.specs.Words.{first_at, second_at}
 use Rattle.write_list.proofs.Going.{going-begin, going_on, going_end, keeps-done, keeps_same}

@@ -1,5 +1,6 @@
 -- A writing goes on with bytes in front of what is left of it: what the rest gives, the whole gives, and a step is written or is the misfit.
 -- Assumes nothing.
+use Rattle.std.specs.Prelude.{Err, Ok}
 use mathlib.Core.Path.{◌≡◌, refl, sym, ap, ◌∙◌}
 use mathlib.Core.Bool.{Bool}
 use mathlib.Core.List.{List, [], ◌++◌, append-nil, append_assoc}
@@ -8,8 +9,8 @@ use native.Mathlib.Omega.{arith}
 use lib.ListN.{length}
 use Rattle.wire.specs.Writing.{Left, Wrote, wrote, misfit, wrote_after, write_nothing, write_on, write_then}
 use Rattle.output.proofs.Counting.{puts_none, puts-both}
-use Rattle.write_list.specs.declared.Put.{Put}
-use Rattle.write_list.specs.declared.Put.TheVariants.{Done, Misfit}
+use Rattle.write_list.specs.Put.{Put}
+use Rattle.write_list.specs.Put.{Done, Misfit}
 use Rattle.write_list.specs.Steps.{entries, Sure, Going, GivesBy, Gives, Keeps}
 
 -- a slice of bytes, as its room is told: the search of `omega` over a place's facts takes longer
@@ -60,8 +61,8 @@ module _ {w rest : Wrote} {u : ℕ} {before : List ℕ} {n : ℕ} {out : List �
   no-going-on e = g.is ∙ ap (wrote_after g.bytes) e
 
   by : (ws : List ℕ) (r : Put) (end : List ℕ) → GivesBy rest ws n out r end → GivesBy w ws u before r end
-  by ws (Done at m) end d = going_on d
-  by ws (Misfit i) end e = no-going-on e
+  by ws (Ok r) end d = going_on d
+  by ws (Err r) end e = no-going-on e
 
   pub gives_whole : {ws : List ℕ} {r : Put} {end : List ℕ} → Gives rest ws n out r end → Gives w ws u before r end
   gives_whole {ws} {r} {end} h = record { holds = by ws r end h.holds }

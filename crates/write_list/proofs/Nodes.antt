@@ -25,8 +25,8 @@ use Rattle.table.specs.Parts.{followed, Falls, node_step}
 use Rattle.table.proofs.Stretches.{falls-followed, node-falls, along-followed}
 use Rattle.output.specs.Bytes.{Puts}
 use Rattle.write_item.specs.Own.{is_some, Known, Lets, Fits, SpellsEntry}
-use Rattle.write_list.specs.declared.Entered.{Entered}
-use Rattle.write_list.specs.declared.Entered.TheVariants.{On, Misfit}
+use Rattle.write_list.specs.Entered.{Entered}
+use Rattle.write_list.specs.Entered.{On, Misfit}
 use Rattle.write_list.specs.Steps.{entries, write_leaf, Sure, Going, Goes, Enters}
 use Rattle.entry.specs.Words.{first_at, second_at}
 use Rattle.write_list.proofs.Entries.{entries_none, entries-more}

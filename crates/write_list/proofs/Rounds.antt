@@ -8,7 +8,7 @@ use lib.ListN.{length}
 use lib.Dec.{eqb}
 use borrow.Author.Tests.{eq-eqb, ne_eqb}
 use Rattle.wire.specs.declared.Layout.{Layout}
-use Rattle.wire.specs.declared.Checked.TheVariants.{Good}
+use Rattle.wire.specs.Checked.{Good}
 use Rattle.wire.specs.Shape.{struct}
 use Rattle.wire.specs.Walk.{times}
 use Rattle.wire.specs.Table.{u16_at, shape_of, check}
@@ -20,9 +20,9 @@ use Rattle.laws.proofs.Own.{single-yes, single-no, single-second}
 use Rattle.table.specs.declared.Way.{Way}
 use Rattle.table.specs.Parts.{Falls, Flat, under, node_step, row_step, rounds_step}
 use Rattle.table.proofs.Stretches.{row_first, rounds-first, rounds-once, root-number, flat-falls, flat-rounds}
-use Rattle.write_list.specs.declared.Put.{Put}
-use Rattle.write_list.specs.declared.Begun.{Begun}
-use Rattle.write_list.specs.declared.Begun.TheVariants.{At, Misfit}
+use Rattle.write_list.specs.Put.{Put}
+use Rattle.write_list.specs.Begun.{Begun}
+use Rattle.write_list.specs.Begun.{At, Misfit}
 use Rattle.write_list.specs.Steps.{entries, Sure, Gives, Begins}
 use Rattle.entry.specs.Words.{first_at, second_at}
 use Rattle.write_list.proofs.Entries.{entries_none}

@@ -1,6 +1,6 @@
 -- Writing as the code goes through it: what a pass has put, and what is left.
 -- Assumes nothing.
-use Rattle.std.specs.Prelude.{◌≡◌, Bool, true, false, List, [], ℕ, ◌+◌, ◌*◌, ◌<◌, drop}
+use Rattle.std.specs.Prelude.{◌≡◌, Bool, true, false, List, [], ℕ, ◌+◌, ◌*◌, ◌<◌, drop, Err, Ok, Some, None}
 use Rattle.wire.specs.declared.Layout.{Layout}
 use Rattle.wire.specs.Shape.{Kind}
 use Rattle.wire.specs.Table.{kind_of, shape_of}
@@ -10,13 +10,12 @@ use Rattle.laws.specs.KindRanges.{IsLeaf}
 use Rattle.table.specs.declared.Stretch.{Stretch}
 use Rattle.table.specs.Parts.{Falls, under, row_step, rounds_step}
 use Rattle.output.specs.Bytes.{Puts}
-use Rattle.write_list.specs.declared.Put.{Put}
-use Rattle.write_list.specs.declared.Put.TheVariants.{Done, Misfit}
-use Rattle.write_list.specs.declared.Entered.{Entered}
-use Rattle.write_list.specs.declared.Entered.TheVariants as entered
+use Rattle.write_list.specs.Put.{Put}
+use Rattle.write_list.specs.Put.{Done, Misfit}
+use Rattle.write_list.specs.Entered.{Entered}
 use Rattle.write_list.specs.declared.Ahead.{Ahead}
-use Rattle.write_list.specs.declared.Begun.{Begun}
-use Rattle.write_list.specs.declared.Begun.TheVariants as begun
+use Rattle.write_list.specs.Begun.{Begun}
+use Rattle.write_list.specs.Begun as begun
 
 -- a value list's entries from the i-th on
 unfoldable pub entries : List ℕ → ℕ → Left
@@ -38,8 +37,8 @@ pub record Going (w rest : Wrote) (u : ℕ) (before : List ℕ) (n : ℕ) (out :
 
 -- the whole writing was put, and the entries from `at` on are left; or there is a misfit
 abbrev pub GivesBy : Wrote → List ℕ → ℕ → List ℕ → Put → List ℕ → Type 0
-GivesBy w ws u before (Done at n) out = Going w (wrote [] (entries ws at)) u before n out
-GivesBy w ws u before (Misfit i) out = w ≡ misfit i
+GivesBy w ws u before (Ok r) out = Going w (wrote [] (entries ws r.at)) u before r.used out
+GivesBy w ws u before (Err r) out = w ≡ misfit r.at
 
 pub record Gives (w : Wrote) (ws : List ℕ) (u : ℕ) (before : List ℕ) (r : Put) (out : List ℕ) : Type 0 where
   pub holds : GivesBy w ws u before r out
@@ -55,8 +54,8 @@ pub record Goes (w : Wrote) (s : List ℕ) (l : Layout) (pool : List ℕ) (i : �
   pub going : Going w (rounds_step (writing pool) s l to.rounds false to.from to.width (entries ws (at + 1))) u before n out
 
 abbrev pub EntersBy : Wrote → List ℕ → Layout → (pool : List ℕ) → (i : ℕ) → (ws : List ℕ) → (at u : ℕ) → (before : List ℕ) → Entered → List ℕ → Type 0
-EntersBy w s l pool i ws at u before (entered.On to n) out = Goes w s l pool i ws at u before to n out
-EntersBy w s l pool i ws at u before entered.Misfit out = w ≡ misfit at
+EntersBy w s l pool i ws at u before (Some r) out = Goes w s l pool i ws at u before r.to r.used out
+EntersBy w s l pool i ws at u before None out = w ≡ misfit at
 
 pub record Enters (w : Wrote) (s : List ℕ) (l : Layout) (pool : List ℕ) (i : ℕ) (ws : List ℕ) (at u : ℕ) (before : List ℕ) (r : Entered) (out : List ℕ) : Type 0 where
   pub holds : EntersBy w s l pool i ws at u before r out

@@ -2,7 +2,7 @@
 #![tactic(auto)]
 
 ghost use Rattle.std.specs.Prelude.{◌≡◌, ◌<◌, ◌≤◌};
-ghost use Rattle.wire.specs.declared.Checked.TheVariants.{Good};
+ghost use Rattle.wire.specs.Checked.{Good};
 ghost use Rattle.wire.specs.Table.{kind_of, node_at, record_of, shape_of};
 ghost use Rattle.wire.specs.Table.{check as check_of};
 ghost use Rattle.wire.specs.Writing.{writing};
@@ -14,21 +14,27 @@ ghost use Rattle.table.specs.Parts.{Falls, node_step, row_step, rounds_step};
 ghost use Rattle.write_list.specs.Steps.{entries, write_leaf, Sure, Keeps, Gives, Enters, Begins, Leads, Leaf, Reaches, Nothing};
 
 use table::Stretch;
+use varint::Width;
 use wire::Layout;
-use write_item::Pooled;
 
-// How far a list is written: the next entry and how many bytes there are now; or the entry that does not fit.
+// How far a list is put: its next entry, and the bytes.
 #[derive(Clone, Copy)]
-pub enum Put {
-    Done { at: usize, used: usize },
-    Misfit { at: usize },
+pub struct Done {
+    pub at: usize,
+    pub used: usize,
 }
 
-// What an entry leaves to do: the stretch that follows it, and how many bytes there are now; or that no value has it.
+// The number of an entry that no value has.
 #[derive(Clone, Copy)]
-enum Entered {
-    On { to: Stretch, used: usize },
-    Misfit,
+pub struct Misfit {
+    pub at: usize,
+}
+
+// What follows the entry of an item that has children, and the bytes.
+#[derive(Clone, Copy)]
+pub struct Inside {
+    pub to: Stretch,
+    pub used: usize,
 }
 
 // How far a list was put: the next entry, how many bytes there are now, and where the numbers that are left stand, and how many.
@@ -38,13 +44,6 @@ pub struct Ahead {
     pub used: usize,
     pub child: usize,
     pub left: usize,
-}
-
-// Where the nodes of a round begin; or that no value has the entry that heads it.
-#[derive(Clone, Copy)]
-enum Begun {
-    At { at: usize },
-    Misfit,
 }
 
 // ---- an entry
@@ -58,7 +57,7 @@ fn leaf_item(
     out: &mut [u8],
     used: usize,
     judged: bool,
-) -> Put
+) -> Result<Done, Misfit>
     requires leaf { IsLeaf number }
     requires at_bound { at < room_of words.now }
     requires sure { Sure judged (write_leaf (kind_of number) pool.now (entries words.now at)) }
@@ -70,12 +69,12 @@ fn leaf_item(
     if ok {
         let more = write_item::put_leaf(number, first, second, pool, out, used);
         let next = at + 1;
-        return Put::Done {
+        return Ok(Done {
             at: next,
             used: more,
-        };
+        });
     }
-    Put::Misfit { at }
+    Err(Misfit { at })
 }
 
 // That of an item with children: its own bytes, and what follows.
@@ -90,7 +89,7 @@ fn enter(
     out: &mut [u8],
     used: usize,
     judged: bool,
-) -> Entered
+) -> Option<Inside>
     requires good_table { GoodTable table.now l }
     requires node_lt_nodes { node < l.nodes }
     requires number_value { number ≡ (node_at table.now (record_of l node)).number }
@@ -107,33 +106,33 @@ fn enter(
         let more = write_item::put_inner(number, first, out, used);
         let from = table::first_child(table, l, node);
         let to = table::follow(number, first, from, width);
-        return Entered::On { to, used: more };
+        return Some(Inside { to, used: more });
     }
-    Entered::Misfit
+    None
 }
 
 // ---- rounds
 
 // A struct's entry has no bytes.
-fn begin(headed: bool, words: &[u64], at: usize) -> Begun
+fn begin(headed: bool, words: &[u64], at: usize) -> Option<usize>
     ensures { Begins headed words.now at result }
 {
     if headed {
         if entry::room(words.len()) <= at {
-            return Begun::Misfit;
+            return None;
         }
         let first = entry::first(words, at);
         let second = entry::second(words, at);
         if first != 0 {
-            return Begun::Misfit;
+            return None;
         }
         if second != 0 {
-            return Begun::Misfit;
+            return None;
         }
         let next = at + 1;
-        return Begun::At { at: next };
+        return Some(next);
     }
-    Begun::At { at }
+    Some(at)
 }
 
 // ---- the cycle: an item, one with children, the rounds of the stretch that follows it, one round
@@ -150,7 +149,7 @@ fn put_item(
     out: &mut [u8],
     used: usize,
     judged: bool,
-) -> Put
+) -> Result<Done, Misfit>
     requires good_table { GoodTable table.now l }
     requires node_lt_nodes { node < l.nodes }
     requires sure { Sure judged (node_step (writing pool.now) table.now l node (entries words.now at)) }
@@ -162,13 +161,13 @@ fn put_item(
         let first = entry::first(words, at);
         let more = write_item::put_ready(number, first, out, used);
         let next = at + 1;
-        return Put::Done {
+        return Ok(Done {
             at: next,
             used: more,
-        };
+        });
     }
     if entry::room(words.len()) <= at {
-        return Put::Misfit { at };
+        return Err(Misfit { at });
     }
     if table::is_inner(number) {
         return inner_item(table, l, node, number, words, at, pool, out, used, judged);
@@ -189,7 +188,7 @@ fn inner_item(
     out: &mut [u8],
     used: usize,
     judged: bool,
-) -> Put
+) -> Result<Done, Misfit>
     requires good_table { GoodTable table.now l }
     requires node_lt_nodes { node < l.nodes }
     requires number_value { number ≡ (node_at table.now (record_of l node)).number }
@@ -198,24 +197,33 @@ fn inner_item(
     requires sure { Sure judged (node_step (writing pool.now) table.now l node (entries words.now at)) }
     ensures { Gives (node_step (writing pool.now) table.now l node (entries words.now at)) words.now used out.old result out.new }
 {
-    let entered = enter(table, l, node, number, words, at, pool, out, used, judged);
-    match entered {
-        Entered::Misfit => Put::Misfit { at },
-        Entered::On { to, used: more } => {
-            let next = at + 1;
-            if to.rounds == 0 {
-                return Put::Done {
-                    at: next,
-                    used: more,
-                };
-            }
-            let way = table::flat(table, l, node, to.from, to.width);
-            put_rounds(
-                table, l, node, to.rounds, way.headed, way.from, way.width, words, next, pool, out,
-                more, judged,
-            )
-        }
+    let Some(inside) = enter(table, l, node, number, words, at, pool, out, used, judged) else {
+        return Err(Misfit { at });
+    };
+    let to = inside.to;
+    let next = at + 1;
+    if to.rounds == 0 {
+        return Ok(Done {
+            at: next,
+            used: inside.used,
+        });
     }
+    let way = table::flat(table, l, node, to.from, to.width);
+    put_rounds(
+        table,
+        l,
+        node,
+        to.rounds,
+        way.headed,
+        way.from,
+        way.width,
+        words,
+        next,
+        pool,
+        out,
+        inside.used,
+        judged,
+    )
 }
 
 #[cycle(inner_item_put_item_put_rounds_put_stretch)]
@@ -233,7 +241,7 @@ fn put_rounds(
     out: &mut [u8],
     used: usize,
     judged: bool,
-) -> Put
+) -> Result<Done, Misfit>
     requires good_table { GoodTable table.now l }
     requires node_le_nodes { node ≤ l.nodes }
     requires falls { Falls table.now from width node }
@@ -244,25 +252,20 @@ fn put_rounds(
     let mut n = used;
     let mut left = rounds;
     while 0 < left {
-        let begun = begin(headed, words, i);
-        let Begun::At { at: start } = begun else {
-            return Put::Misfit { at: i };
+        let Some(start) = begin(headed, words, i) else {
+            return Err(Misfit { at: i });
         };
         let got = put_stretch(
             table, l, node, from, width, words, start, pool, out, n, judged,
         );
-        let Put::Done {
-            at: next,
-            used: more,
-        } = got
-        else {
+        let Ok(done) = got else {
             return got;
         };
-        i = next;
-        n = more;
+        i = done.at;
+        n = done.used;
         left = left - 1;
     }
-    Put::Done { at: i, used: n }
+    Ok(Done { at: i, used: n })
 }
 
 #[cycle(inner_item_put_item_put_rounds_put_stretch)]
@@ -278,7 +281,7 @@ fn put_stretch(
     out: &mut [u8],
     used: usize,
     judged: bool,
-) -> Put
+) -> Result<Done, Misfit>
     requires good_table { GoodTable table.now l }
     requires node_le_nodes { node ≤ l.nodes }
     requires falls { Falls table.now from width node }
@@ -292,19 +295,15 @@ fn put_stretch(
     while 0 < left {
         let c = table::u16_at(table, child);
         let got = put_item(table, l, c, words, i, pool, out, n, judged);
-        let Put::Done {
-            at: next,
-            used: more,
-        } = got
-        else {
+        let Ok(done) = got else {
             return got;
         };
-        i = next;
-        n = more;
+        i = done.at;
+        n = done.used;
         child = child + 2;
         left = left - 1;
     }
-    Put::Done { at: i, used: n }
+    Ok(Done { at: i, used: n })
 }
 
 // ---- a list from where it was put on
@@ -318,7 +317,7 @@ pub fn put_rest(
     pool: &[u8],
     out: &mut [u8],
     judged: bool,
-) -> Put
+) -> Result<Done, Misfit>
     requires good_table { GoodTable table.now l }
     requires falls { Falls table.now ahead.child ahead.left l.nodes }
     requires sure { Sure judged (row_step (writing pool.now) table.now l ahead.child ahead.left (entries words.now ahead.at)) }
@@ -409,36 +408,40 @@ fn put_content(
     pool: &[u8],
     out: &mut [u8],
     used: usize,
-) -> Put
+) -> Result<Done, Misfit>
     requires le_number { (12 ≤ number) × (number ≤ 13) }
     requires at_bound { at < room_of words.now }
     ensures { Leaf number words.now at pool.now used out.old result out.new }
 {
     let first = entry::first(words, at);
     let second = entry::second(words, at);
-    let got = write_item::put_pooled(number, first, second, pool, out, used);
-    match got {
-        Pooled::Misfit => Put::Misfit { at },
-        Pooled::Put { used: more } => {
-            let next = at + 1;
-            Put::Done {
-                at: next,
-                used: more,
-            }
-        }
-    }
+    let Some(more) = write_item::put_pooled(number, first, second, pool, out, used) else {
+        return Err(Misfit { at });
+    };
+    let next = at + 1;
+    Ok(Done {
+        at: next,
+        used: more,
+    })
 }
 
 // The entry of a kind's number, where it is a leaf's.
-fn put_leaf(number: u8, words: &[u64], at: usize, pool: &[u8], out: &mut [u8], used: usize) -> Put
+fn put_leaf(
+    number: u8,
+    words: &[u64],
+    at: usize,
+    pool: &[u8],
+    out: &mut [u8],
+    used: usize,
+) -> Result<Done, Misfit>
     requires { number < 32 }
     ensures { Leaf number words.now at pool.now used out.old result out.new }
 {
     if entry::room(words.len()) <= at {
-        return Put::Misfit { at };
+        return Err(Misfit { at });
     }
     if table::is_inner(number) {
-        return Put::Misfit { at };
+        return Err(Misfit { at });
     }
     match number {
         12..=13 => put_content(number, words, at, pool, out, used),
@@ -466,12 +469,7 @@ fn put_leaves(
     while 0 < left {
         let c = table::u16_at(table, field);
         let number = table::kind_at(table, l, c);
-        let got = put_leaf(number, words, i, pool, out, n);
-        let Put::Done {
-            at: next,
-            used: more,
-        } = got
-        else {
+        let Ok(done) = put_leaf(number, words, i, pool, out, n) else {
             return Ahead {
                 at: i,
                 used: n,
@@ -479,8 +477,8 @@ fn put_leaves(
                 left,
             };
         };
-        i = next;
-        n = more;
+        i = done.at;
+        n = done.used;
         field = field + 2;
         left = left - 1;
     }
@@ -500,7 +498,7 @@ pub fn put_front(table: &[u8], l: Layout, words: &[u64], pool: &[u8], out: &mut 
     let from = table::root_at(table);
     let way = table::flat(table, l, l.nodes, from, 1);
     let begun = begin(way.headed, words, 0);
-    let Begun::At { at: start } = begun else {
+    let Some(start) = begun else {
         return put_nothing(table, l);
     };
     let ints = put_ints(table, l, way.from, way.width, words, start, out);

@@ -9,7 +9,7 @@ use lib.ListN.{length}
 use lib.Dec.{eqb}
 use borrow.Author.Tests.{eq-eqb}
 use Rattle.wire.specs.declared.Refusal.TheVariants.{Values, Full}
-use Rattle.wire.specs.declared.WriteAnswer.TheVariants.{Done, Refused}
+use Rattle.wire.specs.WriteAnswer.{Done, Refused}
 use Rattle.wire.specs.Table.{kind_of}
 use Rattle.wire.specs.Values.{part}
 use Rattle.wire.specs.Writing.{with_count, head_bytes}
@@ -17,11 +17,11 @@ use Rattle.wire.specs.Answers.{words_per, room_of, formed}
 use Rattle.laws.specs.Answered.{Writes}
 use Rattle.entry.specs.Words.{first_at, second_at}
 use Rattle.output.specs.Bytes.{Puts}
-use Rattle.write_item.specs.declared.Pooled.{Pooled}
-use Rattle.write_item.specs.declared.Pooled.TheVariants as pooled
+use Rattle.write_item.specs.Pooled.{Pooled}
+use Rattle.write_item.specs.Pooled as pooled
 use Rattle.write_item.specs.Own.{is_some, SpellsEntry, Pools}
 use Rattle.write_item.proofs.Spelling.{fits-part, spells-part}
-use Rattle.write_list.specs.declared.Put.TheVariants as put
+use Rattle.write_list.specs.Put as put
 use Rattle.write_list.specs.Steps.{entries, write_leaf, Gives}
 use Rattle.write_list.proofs.Going.{gives-misfit}
 use Rattle.write_list.proofs.Nodes.{some_fits}

@@ -1,6 +1,7 @@
 -- A list that was judged is refused, or is written: the count is exact where it is compared with the output, and nothing else was changed. The form
 -- stands where it was put to be judged, if that has room for it.
 -- Assumes nothing.
+use Rattle.std.specs.Prelude.{Ok, Err}
 use mathlib.Core.Path.{◌≡◌, refl, sym, ap, ◌∙◌}
 use mathlib.Core.Bool.{true, false}
 use mathlib.Core.List.{List, [], ◌++◌, append-nil}
@@ -14,9 +15,9 @@ use borrow.Author.Tests.{le-leb, lt-leb}
 use Rattle.wire.specs.declared.Refusal.{Refusal}
 use Rattle.wire.specs.declared.Refusal.TheVariants.{Values, Full}
 use Rattle.wire.specs.declared.Layout.{Layout}
-use Rattle.wire.specs.declared.Checked.TheVariants.{Good, Bad}
-use Rattle.wire.specs.declared.WriteAnswer.{WriteAnswer}
-use Rattle.wire.specs.declared.WriteAnswer.TheVariants.{Done, Refused}
+use Rattle.wire.specs.Checked.{Good, Bad}
+use Rattle.wire.specs.WriteAnswer.{WriteAnswer}
+use Rattle.wire.specs.WriteAnswer.{Done, Refused}
 use Rattle.wire.specs.Tests.{pick, given}
 use Rattle.wire.specs.Table.{check, shape_of}
 use Rattle.wire.specs.Writing.{Wrote, wrote, misfit, wrote_after, writing, write}
@@ -25,8 +26,8 @@ use Rattle.laws.specs.Answered.{Writes}
 use Rattle.table.specs.Parts.{row_step}
 use Rattle.output.specs.Bytes.{cap, Puts}
 use Rattle.output.proofs.Counting.{cap-above, cap-within}
-use Rattle.write_list.specs.declared.Put.{Put}
-use Rattle.write_list.specs.declared.Put.TheVariants as put
+use Rattle.write_list.specs.Put.{Put}
+use Rattle.write_list.specs.Put as put
 use Rattle.write_list.specs.declared.Ahead.{Ahead}
 use Rattle.write_list.specs.Steps.{entries, Sure, Going, GivesBy, Gives, Reaches}
 use Rattle.writer.specs.Promise.{Kept, OneWriting}
@@ -118,12 +119,12 @@ module _ {w : Wrote} {ws before : List ℕ} {r : Put} {kept : List ℕ} (out : L
         judged-short h p = stored (p.stored ∙ ap (sets out 0) (front h))
 
         put_whole : (p : Put) (left : List ℕ) → GivesBy w ws 0 out p left → left ≡ sets out 0 did.bytes
-        put_whole (put.Done i k) left d =
-            let g : AllPut w ws 0 out i k left = all-put (record { holds = d }) refl in
-            let same : wrote g.bytes (entries ws i) ≡ wrote did.bytes (entries ws at) = sym g.is ∙ did.is in
+        put_whole (Ok r) left d =
+            let g : AllPut w ws 0 out r.at r.used left = all-put (record { holds = d }) refl in
+            let same : wrote g.bytes (entries ws r.at) ≡ wrote did.bytes (entries ws at) = sym g.is ∙ did.is in
             let b : g.bytes ≡ did.bytes = cc in
             g.puts.stored ∙ ap (sets out 0) b
-        put_whole (put.Misfit i) left d = absurd (judged-sure.never refl i d)
+        put_whole (Err r) left d = absurd (judged-sure.never refl r.at d)
 
         pub judged-done : {p : Put} {left : List ℕ} → Gives w ws 0 out p left → Writes (formed (length out) w) out (Done n) left
         judged-done {p} {left} g = stored (put_whole p left g.holds)

@@ -1,7 +1,7 @@
 -- How far a list's form is kept in a room, and that the contract of the public call leaves no choice.
 -- Assumes nothing.
 use Rattle.std.specs.Prelude.{◌≡◌, List, ℕ, length}
-use Rattle.wire.specs.declared.WriteAnswer.{WriteAnswer}
+use Rattle.wire.specs.WriteAnswer.{WriteAnswer}
 use Rattle.wire.specs.declared.Layout.{Layout}
 use Rattle.wire.specs.Table.{shape_of}
 use Rattle.wire.specs.Writing.{write}

@@ -3,7 +3,7 @@
 #![tactic(auto)]
 
 ghost use Rattle.std.specs.Prelude.{◌≡◌, ◌≤◌, length};
-ghost use Rattle.wire.specs.declared.Checked.TheVariants.{Good};
+ghost use Rattle.wire.specs.Checked.{Good};
 ghost use Rattle.wire.specs.Table.{kind_of, shape_of};
 ghost use Rattle.wire.specs.Table.{check as check_of};
 ghost use Rattle.wire.specs.Writing.{write as write_shape};
@@ -12,9 +12,8 @@ ghost use Rattle.laws.specs.Answered.{Writes};
 ghost use Rattle.write_list.specs.Steps.{entries, write_leaf};
 ghost use Rattle.writer.specs.Promise.{Kept};
 
-use wire::{Checked, Layout, Refusal, WriteAnswer};
-use write_item::Pooled;
-use write_list::{Ahead, Put};
+use wire::{Layout, Refusal, RefusedAt};
+use write_list::{Ahead, Done, Misfit};
 
 // The rooms in which the first pass keeps a form.
 const SHORT: usize = 64;
@@ -39,37 +38,38 @@ fn write_kept(
     pool: &[u8],
     kept: &mut [u8],
     out: &mut [u8],
-) -> WriteAnswer
+) -> Result<usize, RefusedAt>
     requires table_value { check_of table.now ≡ Good l }
     requires kept { Kept table.now l words.now pool.now ahead kept.old }
     ensures { Writes (formed (length out.old) (write_shape (shape_of table.now l) pool.now (entries words.now 0))) out.old result out.new }
 {
     let got = write_list::put_rest(table, l, ahead, words, pool, kept, false);
     match got {
-        Put::Misfit { at } => WriteAnswer::Refused {
+        Err(misfit) => Err(RefusedAt {
             why: Refusal::Values,
-            place: at,
-        },
-        Put::Done { at, used } => {
-            if at < entry::room(words.len()) {
-                return WriteAnswer::Refused {
+            place: misfit.at,
+        }),
+        Ok(done) => {
+            let used = done.used;
+            if done.at < entry::room(words.len()) {
+                return Err(RefusedAt {
                     why: Refusal::Values,
-                    place: at,
-                };
+                    place: done.at,
+                });
             }
             if out.len() < used {
-                return WriteAnswer::Refused {
+                return Err(RefusedAt {
                     why: Refusal::Full,
                     place: 0,
-                };
+                });
             }
             if used <= kept.len() {
                 output::put_bytes(&kept[..used], out, 0);
-                return WriteAnswer::Done { place: used };
+                return Ok(used);
             }
             let nothing = write_list::put_nothing(table, l);
-            write_list::put_rest(table, l, nothing, words, pool, out, true);
-            WriteAnswer::Done { place: used }
+            let _ = write_list::put_rest(table, l, nothing, words, pool, out, true);
+            Ok(used)
         }
     }
 }
@@ -85,7 +85,7 @@ fn write_whole(
     pool: &[u8],
     small: &mut [u8],
     out: &mut [u8],
-) -> WriteAnswer
+) -> Result<usize, RefusedAt>
     requires table_value { check_of table.now ≡ Good l }
     requires kept { Kept table.now l words.now pool.now ahead small.old }
     ensures { Writes (formed (length out.old) (write_shape (shape_of table.now l) pool.now (entries words.now 0))) out.old result out.new }
@@ -112,7 +112,7 @@ fn write_begun(
     pool: &[u8],
     small: &mut [u8],
     out: &mut [u8],
-) -> WriteAnswer
+) -> Result<usize, RefusedAt>
     requires table_value { check_of table.now ≡ Good l }
     requires kept { Kept table.now l words.now pool.now ahead small.old }
     ensures { Writes (writes table.now words.now pool.now (length out.old)) out.old result out.new }
@@ -120,37 +120,34 @@ fn write_begun(
     if entry::whole(words.len()) {
         return write_whole(table, l, ahead, words, pool, small, out);
     }
-    WriteAnswer::Refused {
+    Err(RefusedAt {
         why: Refusal::Values,
         place: entry::room(words.len()),
-    }
+    })
 }
 
 // A list that is a text or bytes alone needs no room: it is measured, and then put.
-fn write_alone(number: u8, words: &[u64], pool: &[u8], out: &mut [u8]) -> WriteAnswer
+fn write_alone(number: u8, words: &[u64], pool: &[u8], out: &mut [u8]) -> Result<usize, RefusedAt>
     requires le_number { (12 ≤ number) × (number ≤ 13) }
     requires words_len { length words.now ≡ words_per }
     ensures { Writes (formed (length out.old) (write_leaf (kind_of number) pool.now (entries words.now 0))) out.old result out.new }
 {
     let first = entry::first(words, 0);
     let second = entry::second(words, 0);
-    let got = write_item::measure_pooled(number, first, second, pool);
-    match got {
-        Pooled::Misfit => WriteAnswer::Refused {
+    let Some(n) = write_item::measure_pooled(number, first, second, pool) else {
+        return Err(RefusedAt {
             why: Refusal::Values,
             place: 0,
-        },
-        Pooled::Put { used: n } => {
-            if out.len() < n {
-                return WriteAnswer::Refused {
-                    why: Refusal::Full,
-                    place: 0,
-                };
-            }
-            write_item::put_part(first, second, pool, out, 0);
-            WriteAnswer::Done { place: n }
-        }
+        });
+    };
+    if out.len() < n {
+        return Err(RefusedAt {
+            why: Refusal::Full,
+            place: 0,
+        });
     }
+    write_item::put_part(first, second, pool, out, 0);
+    Ok(n)
 }
 
 // ---- by the table
@@ -158,7 +155,13 @@ fn write_alone(number: u8, words: &[u64], pool: &[u8], out: &mut [u8]) -> WriteA
 // A list of leaves only, as most short ones are, needs neither the cycle nor a second pass. Any other is left to `write_begun`,
 // by two calls: of one alone the compiler would make a part of this function, and every list would pay for the rooms. It is
 // lent the slices as parts: to lend them as they came, every list would first copy where they lie.
-fn write_list(table: &[u8], l: Layout, words: &[u64], pool: &[u8], out: &mut [u8]) -> WriteAnswer
+fn write_list(
+    table: &[u8],
+    l: Layout,
+    words: &[u64],
+    pool: &[u8],
+    out: &mut [u8],
+) -> Result<usize, RefusedAt>
     requires { check_of table.now ≡ Good l }
     ensures { Writes (writes table.now words.now pool.now (length out.old)) out.old result out.new }
 {
@@ -193,7 +196,7 @@ fn write_list(table: &[u8], l: Layout, words: &[u64], pool: &[u8], out: &mut [u8
                 if n <= SHORT {
                     if n <= out.len() {
                         output::put_bytes(&small[..n], out, 0);
-                        return WriteAnswer::Done { place: n };
+                        return Ok(n);
                     }
                 }
             }
@@ -211,12 +214,9 @@ fn write_list(table: &[u8], l: Layout, words: &[u64], pool: &[u8], out: &mut [u8
 }
 
 // Writes a value list by a table: how many bytes, which stand in front in the output, or why not.
-pub fn write(table: &[u8], words: &[u64], pool: &[u8], out: &mut [u8]) -> WriteAnswer
+pub fn write(table: &[u8], words: &[u64], pool: &[u8], out: &mut [u8]) -> Result<usize, RefusedAt>
     ensures { Writes (writes table.now words.now pool.now (length out.old)) out.old result out.new }
 {
-    let checked = table::check(table);
-    match checked {
-        Checked::Bad { why, place } => WriteAnswer::Refused { why, place },
-        Checked::Good { layout } => write_list(table, layout, words, pool, out),
-    }
+    let layout = table::check(table)?;
+    write_list(table, layout, words, pool, out)
 }

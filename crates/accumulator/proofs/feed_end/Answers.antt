@@ -38,4 +38,4 @@ returns-in_default c = let d = c.decode_parts-decoded in
 
 pub returns : goal.returns
 unfolding room
-returns c = end_frame c.args.array.now c.args.idx c.args.chunk.now c.requires.good c.requires.ends (omega arith) (rw c.in-Message.is at c.decode_parts-decoded.ensures)
+returns c = end_frame c.args.array.now c.args.idx c.args.chunk.now c.requires.good c.requires.ends (omega arith) (rw c.in-Ok.is at c.decode_parts-decoded.ensures)

@@ -20,7 +20,7 @@ unfolding room
 returns-in_default c = rw c.requires.zeros (fresh_on c.args.array.now c.args.idx c.args.chunk.now c.requires.good (found_none _ (sym c.in_default.is ∙ c.first_zero-found.ensures)) (omega arith) c.feed_on-taken.ensures)
 
 pub feed_end-step-requires : goal.feed_end-step-requires
-feed_end-step-requires c = record { long = c.requires.long; good = c.requires.good; ends = found_at _ (sym c.in-At.is ∙ c.first_zero-found.ensures); zeros = c.requires.zeros }
+feed_end-step-requires c = record { long = c.requires.long; good = c.requires.good; ends = found_at _ (sym c.in-Some.is ∙ c.first_zero-found.ensures); zeros = c.requires.zeros }
 
 pub returns : goal.returns
-returns c = fresh-end c.args.array.now c.args.idx c.args.chunk.now c.requires.good (found_at _ (sym c.in-At.is ∙ c.first_zero-found.ensures)) c.feed_end-step.ensures
+returns c = fresh-end c.args.array.now c.args.idx c.args.chunk.now c.requires.good (found_at _ (sym c.in-Some.is ∙ c.first_zero-found.ensures)) c.feed_end-step.ensures

@@ -21,8 +21,8 @@ returns-in_default c = rw c.requires.1 (no_zero c.args.array.now c.args.idx c.ar
 
 pub feed_end-requires : goal.feed_end-requires
 unfolding room
-feed_end-requires c = record { long = c.requires.0; good = omega arith; ends = found_at _ (sym c.in-At.is ∙ c.first_zero-found.ensures); zeros = c.requires.1 }
+feed_end-requires c = record { long = c.requires.0; good = omega arith; ends = found_at _ (sym c.in-Some.is ∙ c.first_zero-found.ensures); zeros = c.requires.1 }
 
 pub returns : goal.returns
 unfolding room
-returns c = some-zero c.args.array.now c.args.idx c.args.chunk.now (omega arith) (found_at _ (sym c.in-At.is ∙ c.first_zero-found.ensures)) c.feed_end.ensures
+returns c = some-zero c.args.array.now c.args.idx c.args.chunk.now (omega arith) (found_at _ (sym c.in-Some.is ∙ c.first_zero-found.ensures)) c.feed_end.ensures

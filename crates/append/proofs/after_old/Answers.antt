@@ -7,13 +7,13 @@ use Rattle.append.proofs.after_old.Goals as goal
 
 pub roots_append-requires : goal.roots_append-requires
 roots_append-requires c = let pre = c.requires in
-    let good = sym c.check.ensures ∙ c.in-Good.is in
+    let good = sym c.check.ensures ∙ c.in-Ok.is in
     record { old = pre.good_table.0; new = good-table _ _ good; few-old = pre.good_table.1; few-new = within-limits _ _ good; room = pre.area_bytes_in_bounds }
 
-pub returns-in-Bad : goal.returns-in-Bad
+pub returns-in-Err : goal.returns-in-Err
 unfolding ask_by
-returns-in-Bad c = rw (sym c.check.ensures ∙ c.in-Bad.is)
+returns-in-Err c = rw (sym c.check.ensures ∙ c.in-Err.is)
 
-pub returns-in-Good : goal.returns-in-Good
+pub returns-in-Ok : goal.returns-in-Ok
 unfolding ask_by
-returns-in-Good c = rw (sym c.check.ensures ∙ c.in-Good.is, c.roots_append.ensures.answer)
+returns-in-Ok c = rw (sym c.check.ensures ∙ c.in-Ok.is, c.roots_append.ensures.answer)

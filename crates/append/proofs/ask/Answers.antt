@@ -6,11 +6,11 @@ use Rattle.laws.proofs.Tables.{good-table, within-limits}
 use Rattle.append.proofs.ask.Goals as goal
 
 pub after_old-requires : goal.after_old-requires
-after_old-requires c = let good = sym c.check.ensures ∙ c.in-Good.is in record { good_table = (good-table _ _ good, within-limits _ _ good); area_bytes_in_bounds = c.requires }
+after_old-requires c = let good = sym c.check.ensures ∙ c.in-Ok.is in record { good_table = (good-table _ _ good, within-limits _ _ good); area_bytes_in_bounds = c.requires }
 
-pub returns-in-Bad : goal.returns-in-Bad
+pub returns-in-Err : goal.returns-in-Err
 unfolding ask_by
-returns-in-Bad c = rw (sym c.check.ensures ∙ c.in-Bad.is)
+returns-in-Err c = rw (sym c.check.ensures ∙ c.in-Err.is)
 
-pub returns-in-Good : goal.returns-in-Good
-returns-in-Good c = rw (sym c.check.ensures ∙ c.in-Good.is) c.after_old.ensures
+pub returns-in-Ok : goal.returns-in-Ok
+returns-in-Ok c = rw (sym c.check.ensures ∙ c.in-Ok.is) c.after_old.ensures

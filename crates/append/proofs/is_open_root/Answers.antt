@@ -6,10 +6,10 @@ use Rattle.wire.specs.Tests.{pick}
 use Rattle.laws.proofs.Numbering.{root-number}
 use Rattle.append.proofs.is_open_root.Goals as goal
 
-pub returns-in-18 : goal.returns-in-18
+pub returns-then-number-eq18 : goal.returns-then-number-eq18
 unfolding pick
-returns-in-18 c = rw (root-number _ c.requires, eq-eqb _ 18 c.in-18.is)
+returns-then-number-eq18 c = rw (root-number _ c.requires, eq-eqb _ 18 c.if-number-eq18.true)
 
-pub returns-in_default : goal.returns-in_default
+pub returns-else-number-eq18 : goal.returns-else-number-eq18
 unfolding pick
-returns-in_default c = rw (root-number _ c.requires, ne_eqb c.args.number 18 (λ e. omega arith))
+returns-else-number-eq18 c = rw (root-number _ c.requires, ne_eqb c.args.number 18 c.if-number-eq18.false)

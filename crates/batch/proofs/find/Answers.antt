@@ -15,8 +15,8 @@ returns-then-not-same_key c = found-other _ c.requires c.turn-turn.ensures c.if-
 pub returns-then-start-at : goal.returns-then-start-at
 returns-then-start-at c = found-beyond _ c.requires c.turn-turn.ensures c.if-turn-eq0.false c.load-last.ensures c.same_key.ensures c.if-not-same_key.false c.if-start-at.true
 
-pub returns-in-Stops : goal.returns-in-Stops
-returns-in-Stops c = found-unread _ c.requires c.turn-turn.ensures c.if-turn-eq0.false c.load-last.ensures c.same_key.ensures c.if-not-same_key.false c.if-start-at.false c.next-next.ensures c.in-Stops.is
+pub returns-in-Err : goal.returns-in-Err
+returns-in-Err c = found-unread _ c.requires c.turn-turn.ensures c.if-turn-eq0.false c.load-last.ensures c.same_key.ensures c.if-not-same_key.false c.if-start-at.false c.next.ensures c.in-Err.is
 
-pub returns-in-Message : goal.returns-in-Message
-returns-in-Message c = found-message _ c.requires c.turn-turn.ensures c.if-turn-eq0.false c.load-last.ensures c.same_key.ensures c.if-not-same_key.false c.if-start-at.false c.next-next.ensures c.in-Message.is
+pub returns-in-Ok : goal.returns-in-Ok
+returns-in-Ok c = found-message _ c.requires c.turn-turn.ensures c.if-turn-eq0.false c.load-last.ensures c.same_key.ensures c.if-not-same_key.false c.if-start-at.false c.next.ensures c.in-Ok.is

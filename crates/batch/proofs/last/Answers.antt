@@ -1,20 +1,21 @@
 -- `batch::last` meets its contract.
 -- Assumes nothing.
 use mathlib.Core.Path.{sym, ◌∙◌}
+use Rattle.laws.proofs.Answers.{handed-up}
 use Rattle.batch.proofs.Opening.{searched-table, searched-fault, searched-found, parted-of}
 use Rattle.batch.proofs.last.Goals as goal
 
-pub take_apart-opened-requires : goal.take_apart-opened-requires
-take_apart-opened-requires c = sym c.check-checked.ensures ∙ c.in-Good.is
+pub take_apart-requires : goal.take_apart-requires
+take_apart-requires c = sym c.check.ensures ∙ c.in_ok-layout.was
 
 pub find-requires : goal.find-requires
-find-requires c = parted-of c.take_apart-opened.ensures c.in-Parts.is
+find-requires c = parted-of c.take_apart.ensures c.in_ok-parts.was
 
-pub returns-in-Bad : goal.returns-in-Bad
-returns-in-Bad c = searched-table _ _ _ c.check-checked.ensures c.in-Bad.is
+pub returns-in_err-layout : goal.returns-in_err-layout
+returns-in_err-layout c = rw (handed-up c.from_residual.ensures) (searched-table _ _ _ c.check.ensures c.in_err-layout.was)
 
-pub returns-in-Refused : goal.returns-in-Refused
-returns-in-Refused c = searched-fault _ _ _ c.check-checked.ensures c.in-Good.is c.take_apart-opened.ensures c.in-Refused.is
+pub returns-in_err-parts : goal.returns-in_err-parts
+returns-in_err-parts c = rw (handed-up c.from_residual-in_err-parts.ensures) (searched-fault _ _ _ c.check.ensures c.in_ok-layout.was c.take_apart.ensures c.in_err-parts.was)
 
-pub returns-in-Parts : goal.returns-in-Parts
-returns-in-Parts c = searched-found _ _ _ c.check-checked.ensures c.in-Good.is (parted-of c.take_apart-opened.ensures c.in-Parts.is) c.find.ensures
+pub returns : goal.returns
+returns c = searched-found _ _ _ c.check.ensures c.in_ok-layout.was (parted-of c.take_apart.ensures c.in_ok-parts.was) c.find.ensures

@@ -1,7 +1,7 @@
 -- `batch::within` meets its contract.
 -- Assumes nothing.
 use native.Mathlib.Omega.{arith}
-use Rattle.batch.proofs.Parts.{part-inside, part-beyond}
+use Rattle.batch.proofs.Handing.{part-inside, part-beyond}
 use Rattle.batch.proofs.within.Goals as goal
 
 pub returns-then-size-from : goal.returns-then-size-from

@@ -1,6 +1,6 @@
 -- `columns::find` meets its contract: another root, too many fields, or what the fields' kinds are.
 -- Assumes nothing.
-use Rattle.columns.proofs.Rows.{other-root, many-fields, root-falls, some-rows, no-rows}
+use Rattle.columns.proofs.Rows.{other-root, many-fields, root-falls, found}
 use Rattle.columns.proofs.find.Goals as goal
 
 pub returns-then-number-ne18 : goal.returns-then-number-ne18
@@ -12,8 +12,5 @@ returns-then-width-gt-MOST c = many-fields c.requires c.kind_at-number.ensures c
 pub all_fields-requires : goal.all_fields-requires
 all_fields-requires c = record { good_table = c.requires; falls = root-falls c.requires c.kind_at-number.ensures c.if-number-ne18.false c.child_count-width.ensures c.first_child-from.ensures }
 
-pub returns-then-all_fields : goal.returns-then-all_fields
-returns-then-all_fields c = some-rows c.requires c.kind_at-number.ensures c.if-number-ne18.false c.child_count-width.ensures c.first_child-from.ensures c.if-width-gt-MOST.false c.all_fields.ensures c.if-all_fields.true
-
 pub returns : goal.returns
-returns c = no-rows c.requires c.kind_at-number.ensures c.if-number-ne18.false c.child_count-width.ensures c.first_child-from.ensures c.if-width-gt-MOST.false c.all_fields.ensures c.if-all_fields.false
+returns c = rw c.then_some.ensures (found c.requires c.kind_at-number.ensures c.if-number-ne18.false c.child_count-width.ensures c.first_child-from.ensures c.if-width-gt-MOST.false c.all_fields.ensures)

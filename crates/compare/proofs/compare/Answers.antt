@@ -1,14 +1,12 @@
 -- `compare::compare` meets its contract: the table's refusal, or what a good table gives.
 -- Assumes nothing.
 use mathlib.Core.Path.{sym, ◌∙◌}
+use Rattle.laws.proofs.Answers.{handed-up}
 use Rattle.compare.proofs.Promised.{bad-compares}
 use Rattle.compare.proofs.compare.Goals as goal
 
 pub compare_good-requires : goal.compare_good-requires
-compare_good-requires c = sym c.check-checked.ensures ∙ c.in-Good.is
+compare_good-requires c = sym c.check.ensures ∙ c.in_ok-layout.was
 
-pub returns-in-Bad : goal.returns-in-Bad
-returns-in-Bad c = bad-compares _ _ _ _ (sym c.check-checked.ensures ∙ c.in-Bad.is)
-
-pub returns-in-Good : goal.returns-in-Good
-returns-in-Good c = c.compare_good.ensures
+pub returns-in_err-layout : goal.returns-in_err-layout
+returns-in_err-layout c = rw (handed-up c.from_residual.ensures) (bad-compares _ _ _ _ (sym c.check.ensures ∙ c.in_err-layout.was))

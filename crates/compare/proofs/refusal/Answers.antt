@@ -3,11 +3,11 @@
 use Rattle.compare.proofs.Promised.{first-refused, second-refused, none-refused}
 use Rattle.compare.proofs.refusal.Goals as goal
 
-pub returns-in-Refused : goal.returns-in-Refused
-returns-in-Refused c = first-refused _ _ _ c.skim-first.ensures c.in-Refused.is
+pub returns-in-Err : goal.returns-in-Err
+returns-in-Err c = first-refused _ _ _ c.skim-first.ensures c.in-Err.is
 
-pub returns-in-Refused-second : goal.returns-in-Refused-second
-returns-in-Refused-second c = second-refused _ _ _ c.skim-first.ensures c.skim-second.ensures c.in-Done.is c.in-Refused-second.is
+pub returns-in-Err-second : goal.returns-in-Err-second
+returns-in-Err-second c = second-refused _ _ _ c.skim-first.ensures c.skim-second.ensures c.in_default.is c.in-Err-second.is
 
-pub returns-in-Done-second : goal.returns-in-Done-second
-returns-in-Done-second c = none-refused _ _ _ c.skim-first.ensures c.skim-second.ensures c.in-Done.is c.in-Done-second.is
+pub returns : goal.returns
+returns c = none-refused _ _ _ c.skim-first.ensures c.skim-second.ensures c.in_default.is c.in_default-second.is

@@ -7,7 +7,7 @@ pub returns-in_default : goal.returns-in_default
 returns-in_default c = first-number _ _ c.in_default.is
 
 pub returns-in_default-there : goal.returns-in_default-there
-returns-in_default-there c = second-number _ _ c.in-Took.is c.in_default-there.is
+returns-in_default-there c = second-number _ _ c.in-Ok.is c.in_default-there.is
 
 pub returns : goal.returns
-returns c = both-numbers _ _ c.in-Took.is c.in-Took-there.is
+returns c = both-numbers _ _ c.in-Ok.is c.in-Ok-there.is

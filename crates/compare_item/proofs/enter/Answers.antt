@@ -19,15 +19,15 @@ inner_bytes-beside-requires c = c.requires.inner.inner
 
 pub returns-in_default-beside : goal.returns-in_default-beside
 returns-in_default-beside c = let f : Found _ _ _ = record { kind = c.requires.inner.kind; count = c.child_count-width.ensures } in
-    second-unentered _ _ _ (own-found f _ _ c.inner_bytes-got.ensures ∙ c.in-Took.is) (own-found f _ _ c.inner_bytes-beside.ensures ∙ c.in_default-beside.is)
+    second-unentered _ _ _ (own-found f _ _ c.inner_bytes-got.ensures ∙ c.in-Ok.is) (own-found f _ _ c.inner_bytes-beside.ensures ∙ c.in_default-beside.is)
 
 pub follow-to-requires : goal.follow-to-requires
-follow-to-requires c = let inside = children-inside c.requires.good_table c.requires.node_lt_nodes c.child_count-width.ensures c.first_child-from.ensures in record { width_value = head-known _ _ _ _ (sym c.inner_bytes-got.ensures ∙ c.in-Took.is); width_bound = omega arith }
+follow-to-requires c = let inside = children-inside c.requires.good_table c.requires.node_lt_nodes c.child_count-width.ensures c.first_child-from.ensures in record { width_value = head-known _ _ _ _ (sym c.inner_bytes-got.ensures ∙ c.in-Ok.is); width_bound = omega arith }
 
 pub follow-toward-requires : goal.follow-toward-requires
-follow-toward-requires c = let inside = children-inside c.requires.good_table c.requires.node_lt_nodes c.child_count-width.ensures c.first_child-from.ensures in record { width_value = head-known _ _ _ _ (sym c.inner_bytes-beside.ensures ∙ c.in-Took-beside.is); width_bound = omega (arith, c.well_formed.0.0) }
+follow-toward-requires c = let inside = children-inside c.requires.good_table c.requires.node_lt_nodes c.child_count-width.ensures c.first_child-from.ensures in record { width_value = head-known _ _ _ _ (sym c.inner_bytes-beside.ensures ∙ c.in-Ok-beside.is); width_bound = omega (arith, c.well_formed.0.0) }
 
 pub returns : goal.returns
 returns c = let f : Found _ _ _ = record { kind = c.requires.inner.kind; count = c.child_count-width.ensures } in
-    both-entered _ _ _ (own-found f _ _ c.inner_bytes-got.ensures ∙ c.in-Took.is) (own-found f _ _ c.inner_bytes-beside.ensures ∙ c.in-Took-beside.is)
+    both-entered _ _ _ (own-found f _ _ c.inner_bytes-got.ensures ∙ c.in-Ok.is) (own-found f _ _ c.inner_bytes-beside.ensures ∙ c.in-Ok-beside.is)
     (after-found f _ _ _ _ c.first_child-from.ensures c.follow-to.ensures) (after-found f _ _ _ _ c.first_child-from.ensures c.follow-toward.ensures)

@@ -9,11 +9,11 @@ returns-in_default c = let p = c.requires in first-unread _ _ _ _ (sym (c.take-g
 
 pub returns-in_default-beside : goal.returns-in_default-beside
 returns-in_default-beside c = let p = c.requires in
-    second-unread _ _ _ (sym (c.take-got.ensures ∙ leaf-head _ _ _ p.leaf p.part_bound) ∙ c.in-Took.is) (sym (c.take-beside.ensures ∙ leaf-head _ _ _ p.leaf p.other_bound) ∙ c.in_default-beside.is)
+    second-unread _ _ _ (sym (c.take-got.ensures ∙ leaf-head _ _ _ p.leaf p.part_bound) ∙ c.in-Ok.is) (sym (c.take-beside.ensures ∙ leaf-head _ _ _ p.leaf p.other_bound) ∙ c.in_default-beside.is)
 
 pub same_leaf-same-requires : goal.same_leaf-same-requires
-same_leaf-same-requires c = let p = c.requires in record { whole = whole-leaf _ _ _ _ (sym (c.take-got.ensures ∙ leaf-head _ _ _ p.leaf p.part_bound) ∙ c.in-Took.is); whole_2 = whole-leaf _ _ _ _ (sym (c.take-beside.ensures ∙ leaf-head _ _ _ p.leaf p.other_bound) ∙ c.in-Took-beside.is) }
+same_leaf-same-requires c = let p = c.requires in record { whole = whole-leaf _ _ _ _ (sym (c.take-got.ensures ∙ leaf-head _ _ _ p.leaf p.part_bound) ∙ c.in-Ok.is); whole_2 = whole-leaf _ _ _ _ (sym (c.take-beside.ensures ∙ leaf-head _ _ _ p.leaf p.other_bound) ∙ c.in-Ok-beside.is) }
 
 pub returns : goal.returns
 returns c = let p = c.requires in
-    both-taken _ _ _ (sym (c.take-got.ensures ∙ leaf-head _ _ _ p.leaf p.part_bound) ∙ c.in-Took.is) (sym (c.take-beside.ensures ∙ leaf-head _ _ _ p.leaf p.other_bound) ∙ c.in-Took-beside.is) c.same_leaf-same.ensures
+    both-taken _ _ _ (sym (c.take-got.ensures ∙ leaf-head _ _ _ p.leaf p.part_bound) ∙ c.in-Ok.is) (sym (c.take-beside.ensures ∙ leaf-head _ _ _ p.leaf p.other_bound) ∙ c.in-Ok-beside.is) c.same_leaf-same.ensures

@@ -1,7 +1,7 @@
 -- The cycle of calls: an item, one with children, the rounds of the stretch that follows it, one round. The node's number falls from an item to those of its stretch.
 -- Assumes nothing.
 use mathlib.Core.Path.{◌≡◌}
-use Prim.Native.Nat.{◌+◌, ◌*◌, ◌-◌, ◌≤◌}
+use Prim.Native.Nat.{◌+◌, ◌*◌, ◌≤◌}
 use lib.ListN.{length}
 use Rattle.table.specs.Parts.{Falls, row_step, rounds_step}
 use Rattle.read_item.specs.Steps.{spot}
@@ -25,10 +25,10 @@ decreases-walk_stretch l = l.node * 4 + 0
 
 -- ---- the rounds
 abbrev pub invariant-walk_rounds-loop-turns : goal.invariant-walk_rounds-loop-turns
-invariant-walk_rounds-loop-turns l = (lay most_entries (rounds_step meeting l.table l.l l.rounds l.headed l.from l.width (beside (spot l.part l.place) (spot l.other l.there))) l.ones l.others l.count l.initial.list ≡ lay most_entries (rounds_step meeting l.table l.l l.turns l.headed l.from l.width (beside (spot l.rest l.at) (spot l.left l.by))) l.made l.more l.pairs l.list)
-    × (l.at + length l.rest ≡ l.place + length l.part)
-    × (l.by + length l.left ≡ l.there + length l.other)
-    × (l.pairs ≤ l.made)
+invariant-walk_rounds-loop-turns l = (lay most_entries (rounds_step meeting l.table l.l l.rounds l.way.headed l.way.from l.way.width (beside (spot l.part l.fn.at.one) (spot l.other l.fn.at.other))) l.fn.at.ones l.fn.at.others l.fn.at.count l.initial.list ≡ lay most_entries (rounds_step meeting l.table l.l l.turns l.way.headed l.way.from l.way.width (beside (spot l.rest l.now.one) (spot l.left l.now.other))) l.now.ones l.now.others l.now.count l.list)
+    × (l.now.one + length l.rest ≡ l.fn.at.one + length l.part)
+    × (l.now.other + length l.left ≡ l.fn.at.other + length l.other)
+    × (l.now.count ≤ l.now.ones)
     × (length l.list ≡ length l.initial.list)
 
 abbrev pub decreases-walk_rounds-loop-turns : goal.decreases-walk_rounds-loop-turns
@@ -36,11 +36,11 @@ decreases-walk_rounds-loop-turns l = l.turns
 
 -- ---- a stretch
 abbrev pub invariant-walk_stretch-loop-turns : goal.invariant-walk_stretch-loop-turns
-invariant-walk_stretch-loop-turns l = (lay most_entries (row_step meeting l.table l.l l.from l.width (beside (spot l.part l.place) (spot l.other l.there))) l.ones l.others l.count l.initial.list ≡ lay most_entries (row_step meeting l.table l.l l.child l.turns (beside (spot l.rest l.at) (spot l.left l.by))) l.made l.more l.pairs l.list)
+invariant-walk_stretch-loop-turns l = (lay most_entries (row_step meeting l.table l.l l.from l.width (beside (spot l.part l.fn.at.one) (spot l.other l.fn.at.other))) l.fn.at.ones l.fn.at.others l.fn.at.count l.initial.list ≡ lay most_entries (row_step meeting l.table l.l l.child l.turns (beside (spot l.rest l.now.one) (spot l.left l.now.other))) l.now.ones l.now.others l.now.count l.list)
     × Falls l.table l.child l.turns l.node
-    × (l.at + length l.rest ≡ l.place + length l.part)
-    × (l.by + length l.left ≡ l.there + length l.other)
-    × (l.pairs ≤ l.made)
+    × (l.now.one + length l.rest ≡ l.fn.at.one + length l.part)
+    × (l.now.other + length l.left ≡ l.fn.at.other + length l.other)
+    × (l.now.count ≤ l.now.ones)
     × (length l.list ≡ length l.initial.list)
 
 abbrev pub decreases-walk_stretch-loop-turns : goal.decreases-walk_stretch-loop-turns

@@ -11,4 +11,4 @@ pub returns-in_default-beside : goal.returns-in_default-beside
 returns-in_default-beside c = second-stopped _ _ _ _ _ c.skim_rounds-got.ensures c.skim_rounds-beside.ensures c.in_default-beside.is
 
 pub returns : goal.returns
-returns c = both-passed _ _ _ _ _ c.skim_rounds-got.ensures c.skim_rounds-beside.ensures c.in-Done.is c.in-Done-beside.is
+returns c = both-passed _ _ _ _ _ c.skim_rounds-got.ensures c.skim_rounds-beside.ensures c.in-Ok.is c.in-Ok-beside.is

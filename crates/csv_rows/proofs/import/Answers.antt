@@ -1,21 +1,22 @@
 -- `csv_rows::import` meets its contract, by the table's check and its fields.
 -- Assumes nothing.
-use mathlib.Core.Path.{sym, ◌∙◌}
+use Rattle.std.proofs.lemmas.Result.{err_from_is_err_and}
+use mathlib.Core.Path.{sym}
 use Rattle.laws.proofs.Tables.{good-table}
 use Rattle.csv_rows.proofs.Answers.{no_fields_lem, some-fields, import-bad, import-unfit, import-row}
 use Rattle.csv_rows.proofs.import.Goals as goal
 
-pub find-found-requires : goal.find-found-requires
-find-found-requires c = good-table _ _ (sym c.check-checked.ensures ∙ c.in-Good.is)
+pub returns-in_err-layout : goal.returns-in_err-layout
+returns-in_err-layout c = let p = err_from_is_err_and c.from_residual.result c.from_residual.ensures.1 in rw (p.1, p.2) (import-bad _ _ _ (sym c.in_err-layout.ensures))
+
+pub find-requires : goal.find-requires
+find-requires c = good-table _ _ (sym c.in_ok-layout.ensures)
 
 pub import_row-requires : goal.import_row-requires
-import_row-requires c = (some-fields c.find-found.ensures c.in-Fields.is).rowed
+import_row-requires c = (some-fields c.find.ensures c.in-Some.is).rowed
 
-pub returns-in-Bad : goal.returns-in-Bad
-returns-in-Bad c = import-bad _ _ _ (sym c.check-checked.ensures ∙ c.in-Bad.is)
+pub returns-in-None : goal.returns-in-None
+returns-in-None c = import-unfit _ _ _ (sym c.in_ok-layout.ensures) (no_fields_lem c.find.ensures c.in-None.is)
 
-pub returns-in-Unfit : goal.returns-in-Unfit
-returns-in-Unfit c = import-unfit _ _ _ (sym c.check-checked.ensures ∙ c.in-Good.is) (no_fields_lem c.find-found.ensures c.in-Unfit.is)
-
-pub returns-in-Fields : goal.returns-in-Fields
-returns-in-Fields c = import-row _ _ _ (sym c.check-checked.ensures ∙ c.in-Good.is) c.find-found.ensures c.in-Fields.is c.import_row.ensures
+pub returns-in-Some : goal.returns-in-Some
+returns-in-Some c = import-row _ _ _ (sym c.in_ok-layout.ensures) c.find.ensures c.in-Some.is c.import_row.ensures

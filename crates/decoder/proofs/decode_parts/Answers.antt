@@ -36,7 +36,7 @@ unfolding room
 slice_bounds-decode-end c = rw (joined c.zeros-frame.result c.args.front.now c.args.back.now c.put.ensures c.put-2.ensures) (simp length-append)
 
 pub decode-requires-2 : goal.decode-requires-2
-decode-requires-2 c = rw (joined c.zeros-frame.result c.args.front.now c.args.back.now c.put.ensures c.put-2.ensures) (record { fits = omega (arith, c.requires.fits, length-append c.args.front.now c.args.back.now); clean = clean-both c.args.front.now c.args.back.now (found_none _ (sym c.in-Nothing.is ∙ c.first_zero-found.ensures)) c.requires.clean; zeros = c.requires.zeros })
+decode-requires-2 c = rw (joined c.zeros-frame.result c.args.front.now c.args.back.now c.put.ensures c.put-2.ensures) (record { fits = omega (arith, c.requires.fits, length-append c.args.front.now c.args.back.now); clean = clean-both c.args.front.now c.args.back.now (found_none _ (sym c.in-None.is ∙ c.first_zero-found.ensures)) c.requires.clean; zeros = c.requires.zeros })
 
 pub returns : goal.returns
 returns c = rw (joined c.zeros-frame.result c.args.front.now c.args.back.now c.put.ensures c.put-2.ensures) at c.decode-2.ensures

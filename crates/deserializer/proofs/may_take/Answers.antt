@@ -7,8 +7,8 @@ use Rattle.deserializer.proofs.may_take.Goals as goal
 pub returns-in-0-to-13 : goal.returns-in-0-to-13
 returns-in-0-to-13 c = low _ (omega arith)
 
-pub returns-in-20-to-31 : goal.returns-in-20-to-31
-returns-in-20-to-31 c = high _ (omega arith) (omega arith)
+pub returns-in-0-to-13-2 : goal.returns-in-0-to-13-2
+returns-in-0-to-13-2 c = high _ (omega arith) (omega arith)
 
 pub returns-in_default : goal.returns-in_default
 returns-in_default c = between _ (omega arith) (omega arith)

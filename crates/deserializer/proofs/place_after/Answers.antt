@@ -3,10 +3,10 @@
 use Rattle.wire.specs.Answers.{place_after}
 use Rattle.deserializer.proofs.place_after.Goals as goal
 
-pub returns-in-Done : goal.returns-in-Done
+pub returns-in-Ok : goal.returns-in-Ok
 unfolding place_after
-returns-in-Done c = rw c.in-Done.is
+returns-in-Ok c = rw c.in-Ok.is
 
-pub returns-in-Refused : goal.returns-in-Refused
+pub returns-in-Err : goal.returns-in-Err
 unfolding place_after
-returns-in-Refused c = rw c.in-Refused.is
+returns-in-Err c = rw c.in-Err.is

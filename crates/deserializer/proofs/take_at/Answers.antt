@@ -17,12 +17,12 @@ pub overflow_cast-kind : goal.overflow_cast-kind
 overflow_cast-kind c = omega (arith, (leaf _ (let may : may_take c.args.kind ≡ true = sym c.may_take.ensures ∙ c.if-not-may_take.false in may)).0)
 
 pub overflow_add-behind : goal.overflow_add-behind
-overflow_add-behind c = record { fits = word _ _ c.args.message.now (let may : may_take c.args.kind ≡ true = sym c.may_take.ensures ∙ c.if-not-may_take.false in may) (omega arith) (omega arith) c.take-got.ensures c.in-Took.is }
+overflow_add-behind c = record { fits = word _ _ c.args.message.now (let may : may_take c.args.kind ≡ true = sym c.may_take.ensures ∙ c.if-not-may_take.false in may) (omega arith) (omega arith) c.take-got.ensures c.in-Ok.is }
 
-pub returns-in-Took : goal.returns-in-Took
+pub returns-in-Ok : goal.returns-in-Ok
 unfolding taken
-returns-in-Took c = inside _ _ _ (let may : may_take c.args.kind ≡ true = sym c.may_take.ensures ∙ c.if-not-may_take.false in may) (omega arith) (omega arith) c.take-got.ensures c.in-Took.is
+returns-in-Ok c = inside _ _ _ (let may : may_take c.args.kind ≡ true = sym c.may_take.ensures ∙ c.if-not-may_take.false in may) (omega arith) (omega arith) c.take-got.ensures c.in-Ok.is
 
-pub returns-in-Refused : goal.returns-in-Refused
+pub returns-in-Err : goal.returns-in-Err
 unfolding taken
-returns-in-Refused c = inside _ _ _ (let may : may_take c.args.kind ≡ true = sym c.may_take.ensures ∙ c.if-not-may_take.false in may) (omega arith) (omega arith) c.take-got.ensures c.in-Refused.is
+returns-in-Err c = inside _ _ _ (let may : may_take c.args.kind ≡ true = sym c.may_take.ensures ∙ c.if-not-may_take.false in may) (omega arith) (omega arith) c.take-got.ensures c.in-Err.is

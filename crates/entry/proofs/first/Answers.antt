@@ -1,23 +1,9 @@
 -- `entry::first` meets its contract: the word stands in the list.
 -- Assumes nothing.
-use mathlib.Core.Path.{refl}
-use native.Mathlib.Omega.{arith}
-use Rattle.wire.specs.Answers.{room_of}
+use native.Mathlib.Nat.{add-zero}
 use Rattle.entry.specs.Words.{first_at}
 use Rattle.entry.proofs.first.Goals as goal
 
-pub overflow_mul-i : goal.overflow_mul-i
-unfolding room_of
-overflow_mul-i c = omega arith
-
-pub offset_bounds-words-i : goal.offset_bounds-words-i
-unfolding room_of
-offset_bounds-words-i c = omega arith
-
-pub bounds-words-i : goal.bounds-words-i
-unfolding room_of
-bounds-words-i c = omega arith
-
 pub returns : goal.returns
 unfolding first_at
-returns c = refl
+returns c = simp add-zero at c.word.ensures

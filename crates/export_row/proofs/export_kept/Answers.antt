@@ -1,28 +1,19 @@
 -- `export_row::export_kept` meets its contract, by how a row that was laid once ends.
 -- Assumes nothing.
-use mathlib.Core.Path.{sym}
+use Rattle.std.proofs.lemmas.Result.{err_from_is_err_and}
+use mathlib.Core.Path.{refl}
 use native.Mathlib.Omega.{arith}
-use lib.Seq.{length-take-le}
 use Rattle.export_row.proofs.Passes.{passed-refused, passed-full, passed-short, passed-long}
 use Rattle.export_row.proofs.export_kept.Goals as goal
 
-pub put_row-got-requires : goal.put_row-got-requires
-put_row-got-requires c = c.requires
+pub returns-in_err-laid : goal.returns-in_err-laid
+returns-in_err-laid c = let p = err_from_is_err_and c.from_residual.result c.from_residual.ensures.1 in rw (p.1, p.2) (passed-refused _ c.in_err-laid.ensures refl)
 
-pub returns-then-out-len : goal.returns-then-out-len
-returns-then-out-len c = passed-full _ c.put_row-got.ensures c.in-Laid.is (omega arith) c.if-out-len.true
+pub returns-then-out-laid : goal.returns-then-out-laid
+returns-then-out-laid c = passed-full _ c.in_ok-laid.ensures refl (omega arith) c.if-out-laid.true
 
-pub slice_bounds-put_bytes-end-then-len-kept : goal.slice_bounds-put_bytes-end-then-len-kept
-slice_bounds-put_bytes-end-then-len-kept c = sym (length-take-le _ _ (omega arith))
+pub returns-then-laid-kept : goal.returns-then-laid-kept
+returns-then-laid-kept c = passed-short _ c.in_ok-laid.ensures refl (omega arith) c.if-out-laid.false (omega arith) c.put_bytes.ensures
 
-pub returns-then-len-kept : goal.returns-then-len-kept
-returns-then-len-kept c = passed-short _ c.put_row-got.ensures c.in-Laid.is (omega arith) c.if-out-len.false (omega arith) c.put_bytes.ensures
-
-pub put_row-requires : goal.put_row-requires
-put_row-requires c = c.requires
-
-pub returns-in-Refused : goal.returns-in-Refused
-returns-in-Refused c = passed-refused _ c.put_row-got.ensures c.in-Refused.is
-
-pub returns-else-len-kept : goal.returns-else-len-kept
-returns-else-len-kept c = passed-long _ c.put_row-got.ensures c.in-Laid.is (omega arith) c.if-out-len.false c.put_row.ensures
+pub returns : goal.returns
+returns c = passed-long _ c.in_ok-laid.ensures refl (omega arith) c.if-out-laid.false c.put_row-2.ensures

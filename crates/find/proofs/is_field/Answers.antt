@@ -7,8 +7,8 @@ use Rattle.find.proofs.is_field.Goals as goal
 pub returns-in-0-to-13 : goal.returns-in-0-to-13
 returns-in-0-to-13 c = field-low _ (omega arith)
 
-pub returns-in-20-to-31 : goal.returns-in-20-to-31
-returns-in-20-to-31 c = field-high _ (omega arith) (omega arith)
+pub returns-in-0-to-13-2 : goal.returns-in-0-to-13-2
+returns-in-0-to-13-2 c = field-high _ (omega arith) (omega arith)
 
 pub returns-in_default : goal.returns-in_default
 returns-in_default c = field-not _ (omega arith) (λ h. omega arith)

@@ -3,20 +3,22 @@
 use mathlib.Core.Path.{◌∙◌}
 use native.Mathlib.Omega.{arith}
 use Rattle.laws.proofs.Parts.{length-tail}
+use Rattle.laws.proofs.Answers.{handed-up}
 use Rattle.find.proofs.Going.{end-out, end-in}
 use Rattle.find.proofs.seek.Goals as goal
 
 pub slice_bounds-take-count : goal.slice_bounds-take-count
-slice_bounds-take-count c = (end-in c.go-end.ensures c.in-In.is).within
+slice_bounds-take-count c = (end-in c.go.ensures c.in_ok-end.was).within
 
 pub slice_bounds-take-start : goal.slice_bounds-take-start
-slice_bounds-take-start c = (end-in c.go-end.ensures c.in-In.is).within
+slice_bounds-take-start c = (end-in c.go.ensures c.in_ok-end.was).within
 
 pub take-requires : goal.take-requires
-take-requires c = let e = end-in c.go-end.ensures c.in-In.is in record { good_table = c.requires.good_table; node_lt_nodes = e.below; node_value = e.field; part_bound = omega (arith, e.within, length-tail c.args.message.now c.in-In.place) }
+take-requires c = let e = end-in c.go.ensures c.in_ok-end.was in
+    record { good_table = c.requires.good_table; node_lt_nodes = e.below; node_value = e.field; part_bound = omega (arith, e.within, length-tail c.args.message.now c.in_ok-end.end.place) }
 
-pub returns-in-Out : goal.returns-in-Out
-returns-in-Out c = end-out c.go-end.ensures c.in-Out.is
+pub returns-in_err-end : goal.returns-in_err-end
+returns-in_err-end c = handed-up c.from_residual.ensures ∙ end-out c.go.ensures c.in_err-end.was
 
-pub returns-in-In : goal.returns-in-In
-returns-in-In c = c.take.ensures ∙ (end-in c.go-end.ensures c.in-In.is).same
+pub returns : goal.returns
+returns c = c.take.ensures ∙ (end-in c.go.ensures c.in_ok-end.was).same

@@ -13,8 +13,8 @@ returns-then-which-eq0 c = skimmed-none _ _ _ _ _ _ c.if-which-eq0.true c.u16_at
 pub skim_row-got-requires : goal.skim_row-got-requires
 skim_row-got-requires c = let p = c.requires in record { good_table = p.good_table; node_le_nodes = omega arith; falls = falls-front p.falls (omega arith); part_bound = p.part_bound }
 
-pub returns-in-Refused : goal.returns-in-Refused
-returns-in-Refused c = skimmed-refused _ _ _ _ _ _ _ c.skim_row-got.ensures c.in-Refused.is
+pub returns-in-Err : goal.returns-in-Err
+returns-in-Err c = skimmed-refused _ _ _ _ _ _ _ c.skim_row-got.ensures c.in-Err.is
 
-pub returns-in-Done : goal.returns-in-Done
-returns-in-Done c = skimmed-on _ _ _ _ _ _ _ c.skim_row-got.ensures c.in-Done.is c.u16_at-in-Done.ensures.0
+pub returns-in-Ok : goal.returns-in-Ok
+returns-in-Ok c = skimmed-on _ _ _ _ _ _ _ c.skim_row-got.ensures c.in-Ok.is c.u16_at-in-Ok.ensures.0

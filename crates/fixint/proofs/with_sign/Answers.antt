@@ -8,8 +8,8 @@ use Rattle.fixint.proofs.with_sign.Goals as goal
 
 pub returns-then-signed : goal.returns-then-signed
 unfolding sign_of
-returns-then-signed c = rw c.if-signed.true (c.extend.ensures ∙ extended-whole _ _ c.requires.0 c.requires.1)
+returns-then-signed g c = rw c.if-signed.true (c.extend.ensures ∙ extended-whole _ _ c.requires.0 c.requires.1)
 
-pub returns : goal.returns
+pub returns-else-signed : goal.returns-else-signed
 unfolding sign_of numbers.word
-returns c = rw c.if-signed.false
+returns-else-signed g c = rw c.if-signed.false

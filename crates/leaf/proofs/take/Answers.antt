@@ -17,6 +17,3 @@ returns-in-1-to-4 c = is_leaf_lem _ _ _ (omega arith) (low-leaf _ (omega arith))
 
 pub returns-in-5-to-8 : goal.returns-in-5-to-8
 returns-in-5-to-8 c = is_leaf_lem _ _ _ (omega arith) (low-leaf _ (omega arith)) (c.unsigned.ensures ∙ low-place _ _ _ (omega arith))
-
-pub returns-in_default : goal.returns-in_default
-returns-in_default c = c.anew.ensures ∙ c.others.ensures

@@ -11,4 +11,4 @@ returns-in_default c = kept (unzigzagged signed) refl c.in_default.is
 
 pub returns : goal.returns
 unfolding unzigzagged
-returns c = changed (unzigzagged signed) refl c.in-Took.is c.unzigzag-word.ensures
+returns c = changed (unzigzagged signed) refl c.in-Ok.is c.unzigzag.ensures

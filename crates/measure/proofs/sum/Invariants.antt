@@ -4,7 +4,7 @@ use Rattle.std.proofs.Common.{length}
 use Rattle.measure.proofs.sum.Given as goal
 
 abbrev pub invariant-loop-rest : goal.invariant-loop-rest
-invariant-loop-rest l = Unit {0}
+invariant-loop-rest g l = Unit {0}
 
 abbrev pub decreases-loop-rest : goal.decreases-loop-rest
-decreases-loop-rest l = length l.rest
+decreases-loop-rest g l = length l.rest

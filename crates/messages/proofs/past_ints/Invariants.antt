@@ -3,8 +3,5 @@
 use Rattle.messages.proofs.Past.{Along}
 use Rattle.messages.proofs.past_ints.Given as goal
 
-abbrev pub invariant-loop-left : goal.invariant-loop-left
-invariant-loop-left l = Along l.table l.l l.from l.width l.part l.at l.child l.left l.to
-
-abbrev pub decreases-loop-left : goal.decreases-loop-left
-decreases-loop-left l = l.left
+abbrev pub invariant-loop-i : goal.invariant-loop-i
+invariant-loop-i l = Along l.table l.l l.from l.part l.at l.i l.to

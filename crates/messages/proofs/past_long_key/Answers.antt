@@ -2,14 +2,15 @@
 -- Assumes nothing.
 use mathlib.Core.Path.{sym, ◌∙◌}
 use native.Mathlib.Omega.{arith}
-use Rattle.messages.proofs.Past.{in-more, more-inside, in-none}
+use Rattle.messages.specs.Past.{none}
+use Rattle.messages.proofs.Past.{in-more, more-inside}
 use Rattle.messages.proofs.past_long_key.Goals as goal
 
-pub overflow_add-behind-in-Took : goal.overflow_add-behind-in-Took
-overflow_add-behind-in-Took c = omega (arith, more-inside c.args.narrow c.args.part.now c.args.at c.requires (sym c.take_word-item.ensures ∙ c.in-Took.is))
+pub overflow_add-result : goal.overflow_add-result
+overflow_add-result c = omega (arith, more-inside c.args.narrow c.args.part.now c.args.at c.requires (sym c.take_word.ensures ∙ c.in-Ok.is))
 
-pub returns-in-Refused : goal.returns-in-Refused
-returns-in-Refused c = in-none _ _ _ (omega arith)
+pub returns-in_default : goal.returns-in_default
+returns-in_default c = none
 
-pub returns-in-Took : goal.returns-in-Took
-returns-in-Took c = in-more _ _ _ (sym c.take_word-item.ensures ∙ c.in-Took.is)
+pub returns : goal.returns
+returns c = in-more _ _ _ c.requires (sym c.take_word.ensures ∙ c.in-Ok.is)

@@ -6,7 +6,7 @@ use Rattle.messages.proofs.Past.{Passing}
 use Rattle.messages.proofs.past_varint.Given as goal
 
 abbrev pub invariant-loop-i : goal.invariant-loop-i
-invariant-loop-i l = Passing l.part l.most l.at l.i l.left
+invariant-loop-i l = Passing l.part l.longest l.at l.i l.left
 
 abbrev pub decreases-loop-i : goal.decreases-loop-i
 decreases-loop-i l = length l.part - l.i

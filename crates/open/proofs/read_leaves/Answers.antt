@@ -7,6 +7,7 @@ use native.Mathlib.Omega.{arith}
 use lib.ListN.{length, length-drop}
 use Rattle.wire.specs.Table.{u16_at}
 use Rattle.wire.specs.Reading.{head_by, reading}
+use Rattle.laws.proofs.Answers.{handed-up}
 use Rattle.laws.proofs.Bounds.{head-by-sound}
 use Rattle.laws.proofs.KindRanges.{is-inner}
 use Rattle.table.specs.Parts.{node_step}
@@ -40,23 +41,23 @@ shape_of-store-then-is_inner c = c.loop-left.invariant.3
 pub returns-then-is_inner : goal.returns-then-is_inner
 returns-then-is_inner c = passes-inner c.loop-left.invariant.0 _ (let next-is : c.u16_at-c.result ≡ u16_at c.args.table.now (last_from c.args.from c.args.width c.loop-left.left) = rw c.loop-left.invariant.1 at c.u16_at-c.ensures.0 in next-is) (omega arith) _ c.kind_at-number.ensures (is-inner _ (sym c.is_inner.ensures ∙ c.if-is_inner.true))
 
-pub read_leaf-got-requires : goal.read_leaf-got-requires
-read_leaf-got-requires c = record { part_bound = (let part-fits : c.loop-left.at + length c.loop-left.rest.now < 2 ^ 64 = let i = c.loop-left.invariant in omega (arith, i.0.up, i.0.inside, ap length i.2, length-drop (c.loop-left.at - c.args.place) c.args.part.now, c.requires.part_bound) in part-fits); made_bound = omega arith }
+pub read_leaf-requires : goal.read_leaf-requires
+read_leaf-requires c = record { part_bound = (let part-fits : c.loop-left.at + length c.loop-left.rest.now < 2 ^ 64 = let i = c.loop-left.invariant in omega (arith, i.0.up, i.0.inside, ap length i.2, length-drop (c.loop-left.at - c.args.place) c.args.part.now, c.requires.part_bound) in part-fits); made_bound = omega arith }
 
-pub shape_of-store-in-Refused : goal.shape_of-store-in-Refused
-shape_of-store-in-Refused c = c.store-1.given ∙ c.loop-left.invariant.3
+pub shape_of-store-in_err-next : goal.shape_of-store-in_err-next
+shape_of-store-in_err-next c = c.store-1.given ∙ c.loop-left.invariant.3
 
-pub returns-in-Refused : goal.returns-in-Refused
-returns-in-Refused c = passes-stops c.loop-left.invariant.0 c.loop-left-test.true (let next-is : c.u16_at-c.result ≡ u16_at c.args.table.now (last_from c.args.from c.args.width c.loop-left.left) = rw c.loop-left.invariant.1 at c.u16_at-c.ensures.0 in next-is) c.loop-left.invariant.2 (head-by-sound _) (let called : Gives (lay c.args.room (node_step (reading (head_by c.args.strict)) c.args.table.now c.args.l c.u16_at-c.result (spot c.loop-left.rest.now c.loop-left.at)) c.loop-left.sofar c.loop-left.store) c.read_leaf-got.result c.read_leaf-got.new.store = leaf-called _ _ c.requires.good_table (let below-nodes : c.u16_at-c.result < c.args.l.nodes = omega (arith, (let next-is : c.u16_at-c.result ≡ u16_at c.args.table.now (last_from c.args.from c.args.width c.loop-left.left) = rw c.loop-left.invariant.1 at c.u16_at-c.ensures.0 in next-is), falls-first (falls-last c.requires.falls _ c.loop-left.invariant.0.fewer) c.loop-left-test.true) in below-nodes) _ _ _ _ (omega arith) _ c.kind_at-number.ensures (sym c.is_inner.ensures ∙ c.if-is_inner.false) (let part-fits : c.loop-left.at + length c.loop-left.rest.now < 2 ^ 64 = let i = c.loop-left.invariant in omega (arith, i.0.up, i.0.inside, ap length i.2, length-drop (c.loop-left.at - c.args.place) c.args.part.now, c.requires.part_bound) in part-fits) c.read_leaf-got.ensures in called) c.in-Refused.is
+pub returns-in_err-next : goal.returns-in_err-next
+returns-in_err-next c = rw (handed-up c.from_residual.ensures) (passes-stops c.loop-left.invariant.0 c.loop-left-test.true (let next-is : c.u16_at-c.result ≡ u16_at c.args.table.now (last_from c.args.from c.args.width c.loop-left.left) = rw c.loop-left.invariant.1 at c.u16_at-c.ensures.0 in next-is) c.loop-left.invariant.2 (head-by-sound _) (let called : Gives (lay c.args.room (node_step (reading (head_by c.args.strict)) c.args.table.now c.args.l c.u16_at-c.result (spot c.loop-left.rest.now c.loop-left.at)) c.loop-left.sofar c.loop-left.store) c.read_leaf.result c.read_leaf.new.store = leaf-called _ _ c.requires.good_table (let below-nodes : c.u16_at-c.result < c.args.l.nodes = omega (arith, (let next-is : c.u16_at-c.result ≡ u16_at c.args.table.now (last_from c.args.from c.args.width c.loop-left.left) = rw c.loop-left.invariant.1 at c.u16_at-c.ensures.0 in next-is), falls-first (falls-last c.requires.falls _ c.loop-left.invariant.0.fewer) c.loop-left-test.true) in below-nodes) _ _ _ _ (omega arith) _ c.kind_at-number.ensures (sym c.is_inner.ensures ∙ c.if-is_inner.false) (let part-fits : c.loop-left.at + length c.loop-left.rest.now < 2 ^ 64 = let i = c.loop-left.invariant in omega (arith, i.0.up, i.0.inside, ap length i.2, length-drop (c.loop-left.at - c.args.place) c.args.part.now, c.requires.part_bound) in part-fits) c.read_leaf.ensures in called) c.in_err-next.was)
 
 pub overflow_sub-used : goal.overflow_sub-used
-overflow_sub-used c = (let went : Went c.loop-left.rest.now c.loop-left.at c.in-Done.next = passes-went c.loop-left.invariant.0 c.loop-left-test.true (let next-is : c.u16_at-c.result ≡ u16_at c.args.table.now (last_from c.args.from c.args.width c.loop-left.left) = rw c.loop-left.invariant.1 at c.u16_at-c.ensures.0 in next-is) c.loop-left.invariant.2 (head-by-sound _) (let called : Gives (lay c.args.room (node_step (reading (head_by c.args.strict)) c.args.table.now c.args.l c.u16_at-c.result (spot c.loop-left.rest.now c.loop-left.at)) c.loop-left.sofar c.loop-left.store) c.read_leaf-got.result c.read_leaf-got.new.store = leaf-called _ _ c.requires.good_table (let below-nodes : c.u16_at-c.result < c.args.l.nodes = omega (arith, (let next-is : c.u16_at-c.result ≡ u16_at c.args.table.now (last_from c.args.from c.args.width c.loop-left.left) = rw c.loop-left.invariant.1 at c.u16_at-c.ensures.0 in next-is), falls-first (falls-last c.requires.falls _ c.loop-left.invariant.0.fewer) c.loop-left-test.true) in below-nodes) _ _ _ _ (omega arith) _ c.kind_at-number.ensures (sym c.is_inner.ensures ∙ c.if-is_inner.false) (let part-fits : c.loop-left.at + length c.loop-left.rest.now < 2 ^ 64 = let i = c.loop-left.invariant in omega (arith, i.0.up, i.0.inside, ap length i.2, length-drop (c.loop-left.at - c.args.place) c.args.part.now, c.requires.part_bound) in part-fits) c.read_leaf-got.ensures in called) c.in-Done.is in went).up
+overflow_sub-used c = (let went : Went c.loop-left.rest.now c.loop-left.at c.in_ok-next.field-0.place = passes-went c.loop-left.invariant.0 c.loop-left-test.true (let next-is : c.u16_at-c.result ≡ u16_at c.args.table.now (last_from c.args.from c.args.width c.loop-left.left) = rw c.loop-left.invariant.1 at c.u16_at-c.ensures.0 in next-is) c.loop-left.invariant.2 (head-by-sound _) (let called : Gives (lay c.args.room (node_step (reading (head_by c.args.strict)) c.args.table.now c.args.l c.u16_at-c.result (spot c.loop-left.rest.now c.loop-left.at)) c.loop-left.sofar c.loop-left.store) c.read_leaf.result c.read_leaf.new.store = leaf-called _ _ c.requires.good_table (let below-nodes : c.u16_at-c.result < c.args.l.nodes = omega (arith, (let next-is : c.u16_at-c.result ≡ u16_at c.args.table.now (last_from c.args.from c.args.width c.loop-left.left) = rw c.loop-left.invariant.1 at c.u16_at-c.ensures.0 in next-is), falls-first (falls-last c.requires.falls _ c.loop-left.invariant.0.fewer) c.loop-left-test.true) in below-nodes) _ _ _ _ (omega arith) _ c.kind_at-number.ensures (sym c.is_inner.ensures ∙ c.if-is_inner.false) (let part-fits : c.loop-left.at + length c.loop-left.rest.now < 2 ^ 64 = let i = c.loop-left.invariant in omega (arith, i.0.up, i.0.inside, ap length i.2, length-drop (c.loop-left.at - c.args.place) c.args.part.now, c.requires.part_bound) in part-fits) c.read_leaf.ensures in called) c.in_ok-next.was in went).up
 
 pub slice_bounds-rest-count : goal.slice_bounds-rest-count
-slice_bounds-rest-count c = (let went : Went c.loop-left.rest.now c.loop-left.at c.in-Done.next = passes-went c.loop-left.invariant.0 c.loop-left-test.true (let next-is : c.u16_at-c.result ≡ u16_at c.args.table.now (last_from c.args.from c.args.width c.loop-left.left) = rw c.loop-left.invariant.1 at c.u16_at-c.ensures.0 in next-is) c.loop-left.invariant.2 (head-by-sound _) (let called : Gives (lay c.args.room (node_step (reading (head_by c.args.strict)) c.args.table.now c.args.l c.u16_at-c.result (spot c.loop-left.rest.now c.loop-left.at)) c.loop-left.sofar c.loop-left.store) c.read_leaf-got.result c.read_leaf-got.new.store = leaf-called _ _ c.requires.good_table (let below-nodes : c.u16_at-c.result < c.args.l.nodes = omega (arith, (let next-is : c.u16_at-c.result ≡ u16_at c.args.table.now (last_from c.args.from c.args.width c.loop-left.left) = rw c.loop-left.invariant.1 at c.u16_at-c.ensures.0 in next-is), falls-first (falls-last c.requires.falls _ c.loop-left.invariant.0.fewer) c.loop-left-test.true) in below-nodes) _ _ _ _ (omega arith) _ c.kind_at-number.ensures (sym c.is_inner.ensures ∙ c.if-is_inner.false) (let part-fits : c.loop-left.at + length c.loop-left.rest.now < 2 ^ 64 = let i = c.loop-left.invariant in omega (arith, i.0.up, i.0.inside, ap length i.2, length-drop (c.loop-left.at - c.args.place) c.args.part.now, c.requires.part_bound) in part-fits) c.read_leaf-got.ensures in called) c.in-Done.is in went).inside
+slice_bounds-rest-count c = (let went : Went c.loop-left.rest.now c.loop-left.at c.in_ok-next.field-0.place = passes-went c.loop-left.invariant.0 c.loop-left-test.true (let next-is : c.u16_at-c.result ≡ u16_at c.args.table.now (last_from c.args.from c.args.width c.loop-left.left) = rw c.loop-left.invariant.1 at c.u16_at-c.ensures.0 in next-is) c.loop-left.invariant.2 (head-by-sound _) (let called : Gives (lay c.args.room (node_step (reading (head_by c.args.strict)) c.args.table.now c.args.l c.u16_at-c.result (spot c.loop-left.rest.now c.loop-left.at)) c.loop-left.sofar c.loop-left.store) c.read_leaf.result c.read_leaf.new.store = leaf-called _ _ c.requires.good_table (let below-nodes : c.u16_at-c.result < c.args.l.nodes = omega (arith, (let next-is : c.u16_at-c.result ≡ u16_at c.args.table.now (last_from c.args.from c.args.width c.loop-left.left) = rw c.loop-left.invariant.1 at c.u16_at-c.ensures.0 in next-is), falls-first (falls-last c.requires.falls _ c.loop-left.invariant.0.fewer) c.loop-left-test.true) in below-nodes) _ _ _ _ (omega arith) _ c.kind_at-number.ensures (sym c.is_inner.ensures ∙ c.if-is_inner.false) (let part-fits : c.loop-left.at + length c.loop-left.rest.now < 2 ^ 64 = let i = c.loop-left.invariant in omega (arith, i.0.up, i.0.inside, ap length i.2, length-drop (c.loop-left.at - c.args.place) c.args.part.now, c.requires.part_bound) in part-fits) c.read_leaf.ensures in called) c.in_ok-next.was in went).inside
 
 pub slice_bounds-rest-start : goal.slice_bounds-rest-start
-slice_bounds-rest-start c = (let went : Went c.loop-left.rest.now c.loop-left.at c.in-Done.next = passes-went c.loop-left.invariant.0 c.loop-left-test.true (let next-is : c.u16_at-c.result ≡ u16_at c.args.table.now (last_from c.args.from c.args.width c.loop-left.left) = rw c.loop-left.invariant.1 at c.u16_at-c.ensures.0 in next-is) c.loop-left.invariant.2 (head-by-sound _) (let called : Gives (lay c.args.room (node_step (reading (head_by c.args.strict)) c.args.table.now c.args.l c.u16_at-c.result (spot c.loop-left.rest.now c.loop-left.at)) c.loop-left.sofar c.loop-left.store) c.read_leaf-got.result c.read_leaf-got.new.store = leaf-called _ _ c.requires.good_table (let below-nodes : c.u16_at-c.result < c.args.l.nodes = omega (arith, (let next-is : c.u16_at-c.result ≡ u16_at c.args.table.now (last_from c.args.from c.args.width c.loop-left.left) = rw c.loop-left.invariant.1 at c.u16_at-c.ensures.0 in next-is), falls-first (falls-last c.requires.falls _ c.loop-left.invariant.0.fewer) c.loop-left-test.true) in below-nodes) _ _ _ _ (omega arith) _ c.kind_at-number.ensures (sym c.is_inner.ensures ∙ c.if-is_inner.false) (let part-fits : c.loop-left.at + length c.loop-left.rest.now < 2 ^ 64 = let i = c.loop-left.invariant in omega (arith, i.0.up, i.0.inside, ap length i.2, length-drop (c.loop-left.at - c.args.place) c.args.part.now, c.requires.part_bound) in part-fits) c.read_leaf-got.ensures in called) c.in-Done.is in went).inside
+slice_bounds-rest-start c = (let went : Went c.loop-left.rest.now c.loop-left.at c.in_ok-next.field-0.place = passes-went c.loop-left.invariant.0 c.loop-left-test.true (let next-is : c.u16_at-c.result ≡ u16_at c.args.table.now (last_from c.args.from c.args.width c.loop-left.left) = rw c.loop-left.invariant.1 at c.u16_at-c.ensures.0 in next-is) c.loop-left.invariant.2 (head-by-sound _) (let called : Gives (lay c.args.room (node_step (reading (head_by c.args.strict)) c.args.table.now c.args.l c.u16_at-c.result (spot c.loop-left.rest.now c.loop-left.at)) c.loop-left.sofar c.loop-left.store) c.read_leaf.result c.read_leaf.new.store = leaf-called _ _ c.requires.good_table (let below-nodes : c.u16_at-c.result < c.args.l.nodes = omega (arith, (let next-is : c.u16_at-c.result ≡ u16_at c.args.table.now (last_from c.args.from c.args.width c.loop-left.left) = rw c.loop-left.invariant.1 at c.u16_at-c.ensures.0 in next-is), falls-first (falls-last c.requires.falls _ c.loop-left.invariant.0.fewer) c.loop-left-test.true) in below-nodes) _ _ _ _ (omega arith) _ c.kind_at-number.ensures (sym c.is_inner.ensures ∙ c.if-is_inner.false) (let part-fits : c.loop-left.at + length c.loop-left.rest.now < 2 ^ 64 = let i = c.loop-left.invariant in omega (arith, i.0.up, i.0.inside, ap length i.2, length-drop (c.loop-left.at - c.args.place) c.args.part.now, c.requires.part_bound) in part-fits) c.read_leaf.ensures in called) c.in_ok-next.was in went).inside
 
 pub slice_bounds-rest-end : goal.slice_bounds-rest-end
 slice_bounds-rest-end c = le_refl _
@@ -72,9 +73,9 @@ loop-left-smaller c = omega (arith, c.loop-left-test.true)
 
 pub loop-left-preserved : goal.loop-left-preserved
 loop-left-preserved c = (
-  passes-next c.loop-left.invariant.0 c.loop-left-test.true (let next-is : c.u16_at-c.result ≡ u16_at c.args.table.now (last_from c.args.from c.args.width c.loop-left.left) = rw c.loop-left.invariant.1 at c.u16_at-c.ensures.0 in next-is) c.loop-left.invariant.2 (head-by-sound _) (let called : Gives (lay c.args.room (node_step (reading (head_by c.args.strict)) c.args.table.now c.args.l c.u16_at-c.result (spot c.loop-left.rest.now c.loop-left.at)) c.loop-left.sofar c.loop-left.store) c.read_leaf-got.result c.read_leaf-got.new.store = leaf-called _ _ c.requires.good_table (let below-nodes : c.u16_at-c.result < c.args.l.nodes = omega (arith, (let next-is : c.u16_at-c.result ≡ u16_at c.args.table.now (last_from c.args.from c.args.width c.loop-left.left) = rw c.loop-left.invariant.1 at c.u16_at-c.ensures.0 in next-is), falls-first (falls-last c.requires.falls _ c.loop-left.invariant.0.fewer) c.loop-left-test.true) in below-nodes) _ _ _ _ (omega arith) _ c.kind_at-number.ensures (sym c.is_inner.ensures ∙ c.if-is_inner.false) (let part-fits : c.loop-left.at + length c.loop-left.rest.now < 2 ^ 64 = let i = c.loop-left.invariant in omega (arith, i.0.up, i.0.inside, ap length i.2, length-drop (c.loop-left.at - c.args.place) c.args.part.now, c.requires.part_bound) in part-fits) c.read_leaf-got.ensures in called) c.in-Done.is,
+  passes-next c.loop-left.invariant.0 c.loop-left-test.true (let next-is : c.u16_at-c.result ≡ u16_at c.args.table.now (last_from c.args.from c.args.width c.loop-left.left) = rw c.loop-left.invariant.1 at c.u16_at-c.ensures.0 in next-is) c.loop-left.invariant.2 (head-by-sound _) (let called : Gives (lay c.args.room (node_step (reading (head_by c.args.strict)) c.args.table.now c.args.l c.u16_at-c.result (spot c.loop-left.rest.now c.loop-left.at)) c.loop-left.sofar c.loop-left.store) c.read_leaf.result c.read_leaf.new.store = leaf-called _ _ c.requires.good_table (let below-nodes : c.u16_at-c.result < c.args.l.nodes = omega (arith, (let next-is : c.u16_at-c.result ≡ u16_at c.args.table.now (last_from c.args.from c.args.width c.loop-left.left) = rw c.loop-left.invariant.1 at c.u16_at-c.ensures.0 in next-is), falls-first (falls-last c.requires.falls _ c.loop-left.invariant.0.fewer) c.loop-left-test.true) in below-nodes) _ _ _ _ (omega arith) _ c.kind_at-number.ensures (sym c.is_inner.ensures ∙ c.if-is_inner.false) (let part-fits : c.loop-left.at + length c.loop-left.rest.now < 2 ^ 64 = let i = c.loop-left.invariant in omega (arith, i.0.up, i.0.inside, ap length i.2, length-drop (c.loop-left.at - c.args.place) c.args.part.now, c.requires.part_bound) in part-fits) c.read_leaf.ensures in called) c.in_ok-next.was,
   omega (arith, c.loop-left.invariant.1, c.loop-left-test.true, c.loop-left.invariant.0.fewer),
-  passes-rest c.loop-left.invariant.0 c.loop-left-test.true (let next-is : c.u16_at-c.result ≡ u16_at c.args.table.now (last_from c.args.from c.args.width c.loop-left.left) = rw c.loop-left.invariant.1 at c.u16_at-c.ensures.0 in next-is) c.loop-left.invariant.2 (head-by-sound _) (let called : Gives (lay c.args.room (node_step (reading (head_by c.args.strict)) c.args.table.now c.args.l c.u16_at-c.result (spot c.loop-left.rest.now c.loop-left.at)) c.loop-left.sofar c.loop-left.store) c.read_leaf-got.result c.read_leaf-got.new.store = leaf-called _ _ c.requires.good_table (let below-nodes : c.u16_at-c.result < c.args.l.nodes = omega (arith, (let next-is : c.u16_at-c.result ≡ u16_at c.args.table.now (last_from c.args.from c.args.width c.loop-left.left) = rw c.loop-left.invariant.1 at c.u16_at-c.ensures.0 in next-is), falls-first (falls-last c.requires.falls _ c.loop-left.invariant.0.fewer) c.loop-left-test.true) in below-nodes) _ _ _ _ (omega arith) _ c.kind_at-number.ensures (sym c.is_inner.ensures ∙ c.if-is_inner.false) (let part-fits : c.loop-left.at + length c.loop-left.rest.now < 2 ^ 64 = let i = c.loop-left.invariant in omega (arith, i.0.up, i.0.inside, ap length i.2, length-drop (c.loop-left.at - c.args.place) c.args.part.now, c.requires.part_bound) in part-fits) c.read_leaf-got.ensures in called) c.in-Done.is,
+  passes-rest c.loop-left.invariant.0 c.loop-left-test.true (let next-is : c.u16_at-c.result ≡ u16_at c.args.table.now (last_from c.args.from c.args.width c.loop-left.left) = rw c.loop-left.invariant.1 at c.u16_at-c.ensures.0 in next-is) c.loop-left.invariant.2 (head-by-sound _) (let called : Gives (lay c.args.room (node_step (reading (head_by c.args.strict)) c.args.table.now c.args.l c.u16_at-c.result (spot c.loop-left.rest.now c.loop-left.at)) c.loop-left.sofar c.loop-left.store) c.read_leaf.result c.read_leaf.new.store = leaf-called _ _ c.requires.good_table (let below-nodes : c.u16_at-c.result < c.args.l.nodes = omega (arith, (let next-is : c.u16_at-c.result ≡ u16_at c.args.table.now (last_from c.args.from c.args.width c.loop-left.left) = rw c.loop-left.invariant.1 at c.u16_at-c.ensures.0 in next-is), falls-first (falls-last c.requires.falls _ c.loop-left.invariant.0.fewer) c.loop-left-test.true) in below-nodes) _ _ _ _ (omega arith) _ c.kind_at-number.ensures (sym c.is_inner.ensures ∙ c.if-is_inner.false) (let part-fits : c.loop-left.at + length c.loop-left.rest.now < 2 ^ 64 = let i = c.loop-left.invariant in omega (arith, i.0.up, i.0.inside, ap length i.2, length-drop (c.loop-left.at - c.args.place) c.args.part.now, c.requires.part_bound) in part-fits) c.read_leaf.ensures in called) c.in_ok-next.was,
   c.store-1.given ∙ c.loop-left.invariant.3,
 )
 

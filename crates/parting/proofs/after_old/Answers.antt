@@ -5,7 +5,7 @@ use Rattle.parting.proofs.Promise.{refused-new}
 use Rattle.parting.proofs.after_old.Goals as goal
 
 pub of_good-requires : goal.of_good-requires
-of_good-requires c = record { value = (c.requires.value, sym c.check.ensures ∙ c.in-Good.is); area_bytes_in_bounds = c.requires.area_bytes_in_bounds }
+of_good-requires c = record { value = (c.requires.value, sym c.check.ensures ∙ c.in-Ok.is); area_bytes_in_bounds = c.requires.area_bytes_in_bounds }
 
-pub returns-in-Bad : goal.returns-in-Bad
-returns-in-Bad c = refused-new _ _ _ c.requires.value (sym c.check.ensures ∙ c.in-Bad.is)
+pub returns-in-Err : goal.returns-in-Err
+returns-in-Err c = refused-new _ _ _ c.requires.value (sym c.check.ensures ∙ c.in-Err.is)

@@ -5,7 +5,7 @@ use Rattle.parting.proofs.Promise.{refused-old}
 use Rattle.parting.proofs.find_within.Goals as goal
 
 pub after_old-requires : goal.after_old-requires
-after_old-requires c = record { value = sym c.check.ensures ∙ c.in-Good.is; area_bytes_in_bounds = c.requires }
+after_old-requires c = record { value = sym c.check.ensures ∙ c.in-Ok.is; area_bytes_in_bounds = c.requires }
 
-pub returns-in-Bad : goal.returns-in-Bad
-returns-in-Bad c = refused-old _ _ _ (sym c.check.ensures ∙ c.in-Bad.is)
+pub returns-in-Err : goal.returns-in-Err
+returns-in-Err c = refused-old _ _ _ (sym c.check.ensures ∙ c.in-Err.is)

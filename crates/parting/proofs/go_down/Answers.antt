@@ -14,11 +14,11 @@ pub returns-in_default : goal.returns-in_default
 returns-in_default c = gone-all c.loop-position.invariant.0 c.next_pair.ensures.follows c.in_default.is
 
 pub loop-position-smaller : goal.loop-position-smaller
-loop-position-smaller c = next-lower c.loop-position.invariant.0 c.next_pair.ensures.follows c.in-Down.is
+loop-position-smaller c = next-lower c.loop-position.invariant.0 c.next_pair.ensures.follows c.in-Some.is
 
 pub loop-position-preserved : goal.loop-position-preserved
 loop-position-preserved c = let here = c.loop-position.invariant in
     let told = c.next_pair.ensures in
     let same = c.next_pair.auto.area in
-    let found = c.in-Down.is in
+    let found = c.in-Some.is in
     (gone-next here.0 told.follows found, asked-next here.0 told.follows here.1 same told.sound found, same ∙ here.2)

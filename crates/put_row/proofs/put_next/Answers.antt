@@ -1,4 +1,4 @@
--- `put_row::put_next` meets its contract: the leaf's own refusal, or its field.
+-- `put_row::put_next` meets its contract: the item is refused, or it is spelled.
 -- Assumes nothing.
 use mathlib.Core.Path.{sym, ◌∙◌}
 use native.Mathlib.Omega.{arith}
@@ -6,14 +6,14 @@ use Rattle.put_row.proofs.Items.{spellable, behind, leaf-head}
 use Rattle.put_row.proofs.Telling.{one-refused, one-laid}
 use Rattle.put_row.proofs.put_next.Goals as goal
 
-pub overflow_add-behind : goal.overflow_add-behind
-overflow_add-behind c = omega (arith, behind _ c.args.message.now _ c.requires.place_in_bounds (sym (leaf-head _ _ _ c.requires.number_value c.requires.place_in_bounds (omega arith)) ∙ sym c.take-got.ensures ∙ c.in-Took.is))
-
 pub put_field-len-requires : goal.put_field-len-requires
-put_field-len-requires c = spellable _ _ _ c.requires.place_in_bounds (sym (leaf-head _ _ _ c.requires.number_value c.requires.place_in_bounds (omega arith)) ∙ sym c.take-got.ensures ∙ c.in-Took.is) c.requires.number_value
+put_field-len-requires c = spellable _ _ _ c.requires.place_in_bounds (sym (leaf-head _ _ _ c.requires.number_value c.requires.place_in_bounds (omega arith)) ∙ sym c.take.ensures ∙ c.in-Ok.is) c.requires.number_value
 
-pub returns-in-Refused : goal.returns-in-Refused
-returns-in-Refused c = one-refused _ _ _ _ _ _ (sym (leaf-head _ _ _ c.requires.number_value c.requires.place_in_bounds (omega arith)) ∙ sym c.take-got.ensures ∙ c.in-Refused.is)
+pub overflow_add-result : goal.overflow_add-result
+overflow_add-result c = omega (arith, behind _ c.args.message.now _ c.requires.place_in_bounds (sym (leaf-head _ _ _ c.requires.number_value c.requires.place_in_bounds (omega arith)) ∙ sym c.take.ensures ∙ c.in-Ok.is))
 
-pub returns-in-Took : goal.returns-in-Took
-returns-in-Took c = one-laid _ _ _ _ _ _ (omega arith) (sym (leaf-head _ _ _ c.requires.number_value c.requires.place_in_bounds (omega arith)) ∙ sym c.take-got.ensures ∙ c.in-Took.is) c.put_between-next.ensures c.put_field-len.ensures
+pub returns-in-Err : goal.returns-in-Err
+returns-in-Err c = one-refused _ _ _ _ _ _ (sym (leaf-head _ _ _ c.requires.number_value c.requires.place_in_bounds (omega arith)) ∙ sym c.take.ensures ∙ c.in-Err.is)
+
+pub returns-in-Ok : goal.returns-in-Ok
+returns-in-Ok c = one-laid _ _ _ _ _ _ (omega arith) (sym (leaf-head _ _ _ c.requires.number_value c.requires.place_in_bounds (omega arith)) ∙ sym c.take.ensures ∙ c.in-Ok.is) c.put_between-used.ensures c.put_field-len.ensures

@@ -8,7 +8,7 @@ pub returns-in_default : goal.returns-in_default
 returns-in_default c = known-refused _ _ c.in_default.is
 
 pub returns-then-own-count : goal.returns-then-own-count
-returns-then-own-count c = known-good _ _ c.in-Took.is (omega arith)
+returns-then-own-count c = known-good _ _ c.in-Ok.is (omega arith)
 
 pub returns : goal.returns
-returns c = known-not _ _ c.in-Took.is (omega arith)
+returns c = known-not _ _ c.in-Ok.is (omega arith)

@@ -5,10 +5,10 @@ use Rattle.read_item.proofs.Heads.{ends-within, puts-entry, puts-same}
 use Rattle.read_item.proofs.lay.Goals as goal
 
 pub overflow_add-behind : goal.overflow_add-behind
-overflow_add-behind c = omega (arith, ends-within c.in-Took.is c.requires.ends)
+overflow_add-behind c = omega (arith, ends-within c.in-Ok.is c.requires.ends)
 
-pub returns-in-Refused : goal.returns-in-Refused
-returns-in-Refused c = puts-same c.in-Refused.is
+pub returns-in-Err : goal.returns-in-Err
+returns-in-Err c = puts-same c.in-Err.is
 
-pub returns-in-Took : goal.returns-in-Took
-returns-in-Took c = puts-entry c.in-Took.is c.put.ensures
+pub returns-in-Ok : goal.returns-in-Ok
+returns-in-Ok c = puts-entry c.in-Ok.is c.put.ensures

@@ -3,8 +3,8 @@
 use Rattle.reader.proofs.Promised.{rest-done, rest-refused}
 use Rattle.reader.proofs.rest.Goals as goal
 
-pub returns-in-Done : goal.returns-in-Done
-returns-in-Done c = rest-done _ _ c.in-Done.is c.from.ensures
+pub returns-in-Ok : goal.returns-in-Ok
+returns-in-Ok c = rest-done _ _ c.in-Ok.is c.from.ensures
 
-pub returns-in-Refused : goal.returns-in-Refused
-returns-in-Refused c = rest-refused _ _ c.in-Refused.is
+pub returns-in-Err : goal.returns-in-Err
+returns-in-Err c = rest-refused _ _ c.in-Err.is

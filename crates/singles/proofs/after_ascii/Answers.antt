@@ -1,6 +1,5 @@
 -- `singles::after_ascii` meets its contract: the loop's invariant is that what is to be said of the rest stays.
 -- Assumes nothing.
-use Prim.Native.Nat.{◌-◌}
 use native.Mathlib.Omega.{arith}
 use borrow.Author.Rules.{rules}
 use Rattle.singles.proofs.Passed.{here, one_on, two-on, three-on, four-on}

@@ -1,7 +1,6 @@
 -- `singles::after_few` meets its contract: the loop's invariant is that what is to be said of the rest stays.
 -- Assumes nothing.
 use mathlib.Core.Path.{refl}
-use Prim.Native.Nat.{◌-◌}
 use native.Mathlib.Omega.{arith}
 use Rattle.singles.proofs.Passed.{here, single}
 use Rattle.singles.proofs.after_few.Goals as goal

@@ -1,7 +1,6 @@
 -- `singles::after_run` meets its contract: the loop's invariant is that what is to be said of the rest stays.
 -- Assumes nothing.
 use mathlib.Core.Path.{refl}
-use Prim.Native.Nat.{◌-◌}
 use native.Mathlib.Omega.{arith}
 use borrow.Author.Rules.{rules}
 use Rattle.singles.proofs.Passed.{here, on}
@@ -11,11 +10,11 @@ use Rattle.singles.proofs.after_run.Goals as goal
 pub loop-i-init : goal.loop-i-init
 loop-i-init c = here _ _ (search rules)
 
-pub returns-then-not-single : goal.returns-then-not-single
-returns-then-not-single c = on c.loop-i.invariant c.after_seven.ensures
+pub returns-then-not-eight_single : goal.returns-then-not-eight_single
+returns-then-not-eight_single c = on c.loop-i.invariant c.after_seven.ensures
 
 pub loop-i-preserved : goal.loop-i-preserved
-loop-i-preserved c = eight-on (λ i. (c.shared_slice_known-1.given i).fits) c.loop-i.invariant _ refl (omega arith) c.eight_single-single.ensures c.if-not-single.false
+loop-i-preserved c = eight-on (λ i. (c.type_inv.s i).fits) c.loop-i.invariant _ refl (omega arith) c.eight_single.ensures c.if-not-eight_single.false
 
 pub returns : goal.returns
 returns c = on c.loop-i.invariant c.after_ascii.ensures

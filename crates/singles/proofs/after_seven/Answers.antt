@@ -5,5 +5,5 @@ use Rattle.singles.proofs.Passed.{on}
 use Rattle.singles.proofs.Highs.{four-ahead}
 use Rattle.singles.proofs.after_seven.Goals as goal
 
-pub returns-then-four : goal.returns-then-four
-returns-then-four c = on (four-ahead (λ i. (c.shared_slice_known-1.given i).fits) _ _ (omega arith) (omega arith) c.four_single-four.ensures c.if-four.true) c.after_three.ensures
+pub returns-then-four_single : goal.returns-then-four_single
+returns-then-four_single c = on (four-ahead (λ i. (c.type_inv.s i).fits) _ _ (omega arith) (omega arith) c.four_single.ensures c.if-four_single.true) c.after_three.ensures

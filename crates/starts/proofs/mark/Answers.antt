@@ -15,23 +15,23 @@ overflow_sub-place c = omega (arith, c.loop-at.invariant.window.from)
 pub returns-then-area-place : goal.returns-then-area-place
 returns-then-area-place c = marking-end c.loop-at.invariant (omega (arith, c.loop-at.invariant.long))
 
-pub next-next-requires : goal.next-next-requires
-next-next-requires c = c.requires.keyed_by
+pub next-requires : goal.next-requires
+next-requires c = c.requires.keyed_by
 
 pub returns-in_default : goal.returns-in_default
-returns-in_default c = marking-stops c.requires.keyed_by.fits c.loop-at.invariant c.loop-at-test.true c.next-next.ensures c.in_default.is
+returns-in_default c = marking-stops c.requires.keyed_by.fits c.loop-at.invariant c.loop-at-test.true c.next.ensures c.in_default.is
 
 pub overflow_add-at : goal.overflow_add-at
-overflow_add-at c = omega (arith, marking-inside c.requires.keyed_by.fits c.loop-at.invariant c.loop-at-test.true c.next-next.ensures c.in-Message.is)
+overflow_add-at c = omega (arith, marking-inside c.requires.keyed_by.fits c.loop-at.invariant c.loop-at-test.true c.next.ensures c.in-Ok.is)
 
 pub overflow_add-count : goal.overflow_add-count
-overflow_add-count c = omega (arith, marking-count c.requires.keyed_by.fits c.loop-at.invariant c.loop-at-test.true c.next-next.ensures c.in-Message.is)
+overflow_add-count c = omega (arith, marking-count c.requires.keyed_by.fits c.loop-at.invariant c.loop-at-test.true c.next.ensures c.in-Ok.is)
 
 pub loop-at-smaller : goal.loop-at-smaller
-loop-at-smaller c = omega (arith, marking-less c.requires.keyed_by.fits c.loop-at.invariant c.loop-at-test.true c.next-next.ensures c.in-Message.is)
+loop-at-smaller c = omega (arith, marking-less c.requires.keyed_by.fits c.loop-at.invariant c.loop-at-test.true c.next.ensures c.in-Ok.is)
 
 pub loop-at-preserved : goal.loop-at-preserved
-loop-at-preserved c = marking-next c.requires.keyed_by.fits c.loop-at.invariant c.loop-at-test.true c.next-next.ensures c.in-Message.is (omega arith) c.mark.ensures
+loop-at-preserved c = marking-next c.requires.keyed_by.fits c.loop-at.invariant c.loop-at-test.true c.next.ensures c.in-Ok.is (omega arith) c.mark.ensures
 
 pub returns : goal.returns
 returns c = marking-end c.loop-at.invariant (omega (arith, c.requires))

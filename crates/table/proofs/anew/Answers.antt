@@ -4,4 +4,4 @@ use mathlib.Core.Path.{sym}
 use Rattle.table.proofs.anew.Goals as goal
 
 pub returns : goal.returns
-returns c = sym c.in-Good.is
+returns c = sym c.in-Ok.is

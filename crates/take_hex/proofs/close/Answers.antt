@@ -7,10 +7,10 @@ use Rattle.take_hex.proofs.Counting.{closes, closes-not}
 use Rattle.take_hex.proofs.close.Goals as goal
 
 pub overflow_add-result : goal.overflow_add-result
-overflow_add-result c = omega (arith, (quote-there c.args.row.now c.args.at (sym c.is_quote.ensures ∙ c.if-is_quote.true)).0)
+overflow_add-result c = omega (arith, (quote-there c.args.row.now c.args.at (sym c.is_at.ensures ∙ c.if-is_at.true)).0)
 
-pub returns-then-is_quote : goal.returns-then-is_quote
-returns-then-is_quote c = closes _ _ _ (sym c.is_quote.ensures ∙ c.if-is_quote.true)
+pub returns-then-is_at : goal.returns-then-is_at
+returns-then-is_at c = closes _ _ _ (sym c.is_at.ensures ∙ c.if-is_at.true)
 
 pub returns : goal.returns
-returns c = rw c.stop.ensures (closes-not _ _ _ c.requires.at_in_bounds c.requires.at_value (sym c.is_quote.ensures ∙ c.if-is_quote.false))
+returns c = closes-not _ _ _ c.requires.at_in_bounds c.requires.at_value (sym c.is_at.ensures ∙ c.if-is_at.false)

@@ -1,7 +1,6 @@
 -- `take_hex::inside` meets its contract: the loop's invariant is that what follows from `at` on is all that follows.
 -- Assumes nothing.
 use mathlib.Core.Path.{sym, ◌∙◌}
-use Prim.Native.Nat.{◌-◌}
 use native.Mathlib.Omega.{arith}
 use Rattle.take_hex.proofs.Counting.{going-begin, going-close, going_end, going-odd, going_on}
 use Rattle.take_hex.proofs.inside.Goals as goal
@@ -16,7 +15,7 @@ pub returns-then-not-is_hex : goal.returns-then-not-is_hex
 returns-then-not-is_hex c = going-close c.loop-at.invariant c.close.ensures
 
 pub returns-then-not-is_hex-2 : goal.returns-then-not-is_hex-2
-returns-then-not-is_hex-2 c = rw c.stop.ensures (going-odd c.loop-at.invariant (sym c.is_hex.ensures ∙ c.if-not-is_hex.false) (sym c.is_hex-in-loop-at.ensures ∙ c.if-not-is_hex-2.true))
+returns-then-not-is_hex-2 c = going-odd c.loop-at.invariant (sym c.is_hex.ensures ∙ c.if-not-is_hex.false) (sym c.is_hex-in-loop-at.ensures ∙ c.if-not-is_hex-2.true)
 
 pub overflow_add-at : goal.overflow_add-at
 overflow_add-at c = let g = going_on c.loop-at.invariant (sym c.is_hex.ensures ∙ c.if-not-is_hex.false) (sym c.is_hex-in-loop-at.ensures ∙ c.if-not-is_hex-2.false) in omega (arith, g.inside)
@@ -31,4 +30,4 @@ pub loop-at-preserved : goal.loop-at-preserved
 loop-at-preserved c = going_on c.loop-at.invariant (sym c.is_hex.ensures ∙ c.if-not-is_hex.false) (sym c.is_hex-in-loop-at.ensures ∙ c.if-not-is_hex-2.false)
 
 pub returns : goal.returns
-returns c = rw c.stop-2.ensures (going_end c.loop-at.invariant (omega arith))
+returns c = going_end c.loop-at.invariant (omega arith)

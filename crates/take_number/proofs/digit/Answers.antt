@@ -1,20 +1,17 @@
--- `take_number::digit` meets its contract: the row's end, another byte, or a digit.
+-- `take_number::digit` meets its contract: the row's end, a digit, or another byte.
 -- Assumes nothing.
 use native.Mathlib.Omega.{arith}
 use Rattle.take_number.proofs.Figures.{digit-in, digit-out}
 use Rattle.take_number.proofs.digit.Goals as goal
 
-pub returns-then-row-at : goal.returns-then-row-at
-returns-then-row-at c = digit-out _ _ (λ l h k. omega arith)
+pub returns-in_err-b : goal.returns-in_err-b
+returns-in_err-b c = rw c.from_residual.ensures (digit-out _ _ (λ l m n. omega (arith, c.in_err-b.ensures.lookup.3)))
 
-pub overflow_cast-b : goal.overflow_cast-b
-overflow_cast-b c = omega (arith, c.shared_slice_known-1.given c.args.at)
+pub returns-in-48-to-57 : goal.returns-in-48-to-57
+returns-in-48-to-57 c = let h = c.in_ok-b.ensures.lookup.3 in let e = h.1 0 in rw e (digit-in _ _ h.0 (omega (arith, e)) (omega (arith, e)))
 
-pub returns-then-b-lt48 : goal.returns-then-b-lt48
-returns-then-b-lt48 c = digit-out _ _ (λ l h k. omega arith)
+pub returns-in_default : goal.returns-in_default
+returns-in_default c = digit-out _ _ (λ l m n. omega (arith, c.in_ok-b.ensures.lookup.3.1 0))
 
-pub returns-then-b-gt57 : goal.returns-then-b-gt57
-returns-then-b-gt57 c = digit-out _ _ (λ l h k. omega arith)
-
-pub returns : goal.returns
-returns c = digit-in _ _ (omega arith) (omega arith) (omega arith)
+pub returns-in_default-2 : goal.returns-in_default-2
+returns-in_default-2 c = digit-out _ _ (λ l m n. omega (arith, c.in_ok-b.ensures.lookup.3.1 0))

@@ -2,7 +2,7 @@
 -- Assumes nothing.
 use mathlib.Core.Path.{sym, ◌∙◌}
 use native.Mathlib.Omega.{arith}
-use Rattle.take_row.proofs.Rows.{at_there}
+use Rattle.take_number.proofs.Figures.{at_there}
 use Rattle.take_row.specs.Messages.{ends, no_return, no_feed, goes_on}
 use Rattle.take_row.proofs.end_of.Goals as goal
 

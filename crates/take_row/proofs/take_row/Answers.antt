@@ -1,50 +1,44 @@
 -- `take_row::take_row` meets its contract: the loop's invariant is that what is laid and what is left to take are the message.
 -- Assumes nothing.
-use mathlib.Core.Path.{◌∙◌}
+use Rattle.std.proofs.lemmas.Result.{err_from_is_err_and}
+use mathlib.Core.Path.{refl}
+use Prim.Native.Nat.{◌<◌, ◌-◌}
 use native.Mathlib.Omega.{arith}
-use Rattle.table.proofs.Stretches.{falls-first}
 use Rattle.columns.proofs.Styled.{rowed-first}
-use Rattle.take_row.proofs.Rows.{going-begin, going-no-comma, going-begun, going-stops, going_next, going_end}
+use Rattle.take_row.proofs.Rows.{going-begin, going-at-first, going-at-next, going-no-comma, going-begun, going-stops, going_next, going-cut, going_end}
 use Rattle.take_row.proofs.take_row.Goals as goal
 
-pub loop-left-init : goal.loop-left-init
-loop-left-init c = going-begin _ _ (omega arith) c.requires
+pub loop-i-init : goal.loop-i-init
+loop-i-init c = going-at-first _ _ _ _ _ _ (going-begin _ _ (omega arith) c.requires)
 
-pub u16_at-c-requires : goal.u16_at-c-requires
-u16_at-c-requires c = omega (arith, c.loop-left.invariant.rowed.falls.inside)
+pub returns-in_err-start : goal.returns-in_err-start
+returns-in_err-start c =
+    let p = err_from_is_err_and c.from_residual.result c.from_residual.ensures.1 in
+    rw (p.1, p.2) (going-no-comma c.loop-i.invariant (omega (arith, c.loop-i-test.true)) refl c.kind-number.ensures c.in_err-start.ensures)
 
-pub kind_at-number-requires : goal.kind_at-number-requires
-kind_at-number-requires c = record { good_table = c.loop-left.invariant.rowed.good; i_lt_nodes = rw c.u16_at-c.ensures.0 (falls-first c.loop-left.invariant.rowed.falls c.loop-left-test.true) }
+pub take_field-requires : goal.take_field-requires
+take_field-requires c =
+    record {
+      number_value = rowed-first c.loop-i.invariant.rowed (omega (arith, c.loop-i-test.true)) refl c.kind-number.ensures;
+      at_in_bounds = (going-begun c.loop-i.invariant (omega (arith, c.loop-i-test.true)) refl c.kind-number.ensures c.in_ok-start.ensures).inside;
+    }
 
-pub start_of-begun-requires : goal.start_of-begun-requires
-start_of-begun-requires c = c.loop-left.invariant.inside
+pub returns-in_err-taken : goal.returns-in_err-taken
+returns-in_err-taken c =
+    let p = err_from_is_err_and c.from_residual-in_err-taken.result c.from_residual-in_err-taken.ensures.1 in
+    let h : 0 < c.args.fields.width - c.loop-i.i = omega (arith, c.loop-i-test.true) in
+    rw (p.1, p.2) (going-stops c.loop-i.invariant h refl c.kind-number.ensures (going-begun c.loop-i.invariant h refl c.kind-number.ensures c.in_ok-start.ensures) c.in_err-taken.ensures)
 
-pub shape_of-out-in-Stops : goal.shape_of-out-in-Stops
-shape_of-out-in-Stops c = c.loop-left.invariant.lays.long
+pub loop-i-preserved : goal.loop-i-preserved
+loop-i-preserved c =
+    let h : 0 < c.args.fields.width - c.loop-i.i = omega (arith, c.loop-i-test.true) in
+    going-at-next _ _ _ _ _ _ c.loop-i.i
+    (going_next c.loop-i.invariant h refl c.kind-number.ensures (going-begun c.loop-i.invariant h refl c.kind-number.ensures c.in_ok-start.ensures) c.in_ok-taken.ensures)
 
-pub returns-in-Stops : goal.returns-in-Stops
-returns-in-Stops c = going-no-comma c.loop-left.invariant c.loop-left-test.true c.u16_at-c.ensures.0 c.kind_at-number.ensures c.start_of-begun.ensures c.in-Stops.is
-
-pub take_field-got-requires : goal.take_field-got-requires
-take_field-got-requires c = record { number_value = rowed-first c.loop-left.invariant.rowed c.loop-left-test.true c.u16_at-c.ensures.0 c.kind_at-number.ensures; at_in_bounds = (going-begun c.loop-left.invariant c.loop-left-test.true c.u16_at-c.ensures.0 c.kind_at-number.ensures c.start_of-begun.ensures c.in-Took.is).inside }
-
-pub shape_of-out-in-Stops-got : goal.shape_of-out-in-Stops-got
-shape_of-out-in-Stops-got c = c.out-1.given ∙ c.loop-left.invariant.lays.long
-
-pub returns-in-Stops-got : goal.returns-in-Stops-got
-returns-in-Stops-got c = going-stops c.loop-left.invariant c.loop-left-test.true c.u16_at-c.ensures.0 c.kind_at-number.ensures (going-begun c.loop-left.invariant c.loop-left-test.true c.u16_at-c.ensures.0 c.kind_at-number.ensures c.start_of-begun.ensures c.in-Took.is) c.take_field-got.ensures c.in-Stops-got.is
-
-pub overflow_add-child : goal.overflow_add-child
-overflow_add-child c = omega (arith, c.loop-left.invariant.rowed.falls.inside)
-
-pub loop-left-preserved : goal.loop-left-preserved
-loop-left-preserved c = going_next c.loop-left.invariant c.loop-left-test.true c.u16_at-c.ensures.0 c.kind_at-number.ensures (going-begun c.loop-left.invariant c.loop-left-test.true c.u16_at-c.ensures.0 c.kind_at-number.ensures c.start_of-begun.ensures c.in-Took.is) c.take_field-got.ensures c.in-Took-got.is
-
-pub end_of-requires : goal.end_of-requires
-end_of-requires c = c.loop-left.invariant.inside
-
-pub shape_of-out : goal.shape_of-out
-shape_of-out c = c.loop-left.invariant.lays.long
+pub returns-in_err-end_of : goal.returns-in_err-end_of
+returns-in_err-end_of c =
+    let p = err_from_is_err_and c.from_residual-in_err-end_of.result c.from_residual-in_err-end_of.ensures.1 in
+    rw (p.1, p.2) (going-cut c.loop-i.invariant (omega (arith, c.loop-i-test.false)) c.in_err-end_of.ensures)
 
 pub returns : goal.returns
-returns c = going_end c.loop-left.invariant c.loop-left-test.false c.end_of.ensures
+returns c = going_end c.loop-i.invariant (omega (arith, c.loop-i-test.false)) c.in_ok-end_of.ensures

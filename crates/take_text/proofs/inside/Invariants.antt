@@ -6,7 +6,7 @@ use Rattle.take_text.proofs.Marking.{Going}
 use Rattle.take_text.proofs.inside.Given as goal
 
 abbrev pub invariant-loop-at : goal.invariant-loop-at
-invariant-loop-at l = Going l.one l.row l.from l.at l.len l.more l.low l.high
+invariant-loop-at l = Going l.one l.row l.from l.at l.len l.«open».more l.«open».low l.«open».high
 
 abbrev pub decreases-loop-at : goal.decreases-loop-at
 decreases-loop-at l = length l.row - l.at

@@ -6,13 +6,13 @@ use Rattle.take_text.proofs.Marking.{quote-there, opened, not_opened}
 use Rattle.take_text.proofs.take_text.Goals as goal
 
 pub overflow_add-at : goal.overflow_add-at
-overflow_add-at c = omega (arith, (quote-there c.args.row.now c.args.at (sym c.is_quote.ensures ∙ c.if-is_quote.true)).0)
+overflow_add-at c = omega (arith, (quote-there c.args.row.now c.args.at (sym c.is_at.ensures ∙ c.if-is_at.true)).0)
 
 pub inside-requires : goal.inside-requires
-inside-requires c = omega (arith, (quote-there c.args.row.now c.args.at (sym c.is_quote.ensures ∙ c.if-is_quote.true)).0)
+inside-requires c = omega (arith, (quote-there c.args.row.now c.args.at (sym c.is_at.ensures ∙ c.if-is_at.true)).0)
 
-pub returns-then-is_quote : goal.returns-then-is_quote
-returns-then-is_quote c = opened _ _ _ (sym c.is_quote.ensures ∙ c.if-is_quote.true) c.inside.ensures
+pub returns-then-is_at : goal.returns-then-is_at
+returns-then-is_at c = opened _ _ _ (sym c.is_at.ensures ∙ c.if-is_at.true) c.inside.ensures
 
 pub returns : goal.returns
-returns c = not_opened _ _ _ c.requires (sym c.is_quote.ensures ∙ c.if-is_quote.false)
+returns c = not_opened _ _ _ c.requires (sym c.is_at.ensures ∙ c.if-is_at.false)

@@ -3,8 +3,8 @@
 use Rattle.telling.proofs.Told.{batch-good, batch-bad}
 use Rattle.telling.proofs.batch_checked.Goals as goal
 
-pub returns-in-Good : goal.returns-in-Good
-returns-in-Good c = batch-good c.in-Good.is
+pub returns-in-Ok : goal.returns-in-Ok
+returns-in-Ok c = batch-good c.in-Ok.is
 
-pub returns-in-Bad : goal.returns-in-Bad
-returns-in-Bad c = batch-bad c.in-Bad.is c.fault.ensures
+pub returns-in-Err : goal.returns-in-Err
+returns-in-Err c = batch-bad c.in-Err.is c.fault.ensures

@@ -3,8 +3,8 @@
 use Rattle.telling.proofs.Told.{batch-done, batch-refused}
 use Rattle.telling.proofs.batch_written.Goals as goal
 
-pub returns-in-Done : goal.returns-in-Done
-returns-in-Done c = batch-done c.in-Done.is
+pub returns-in-Ok : goal.returns-in-Ok
+returns-in-Ok c = batch-done c.in-Ok.is
 
-pub returns-in-Refused : goal.returns-in-Refused
-returns-in-Refused c = batch-refused c.in-Refused.is c.fault.ensures
+pub returns-in-Err : goal.returns-in-Err
+returns-in-Err c = batch-refused c.in-Err.is c.fault.ensures

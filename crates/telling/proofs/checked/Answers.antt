@@ -3,8 +3,8 @@
 use Rattle.telling.proofs.Told.{check-good, check-bad}
 use Rattle.telling.proofs.checked.Goals as goal
 
-pub returns-in-Good : goal.returns-in-Good
-returns-in-Good c = check-good c.in-Good.is
+pub returns-in-Ok : goal.returns-in-Ok
+returns-in-Ok c = check-good c.in-Ok.is
 
-pub returns-in-Bad : goal.returns-in-Bad
-returns-in-Bad c = check-bad c.in-Bad.is c.refusal.ensures
+pub returns-in-Err : goal.returns-in-Err
+returns-in-Err c = check-bad c.in-Err.is c.refusal.ensures

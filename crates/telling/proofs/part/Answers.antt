@@ -3,8 +3,8 @@
 use Rattle.telling.proofs.Told.{part-found, part-refused}
 use Rattle.telling.proofs.part.Goals as goal
 
-pub returns-in-Part : goal.returns-in-Part
-returns-in-Part c = part-found c.in-Part.is
+pub returns-in-Ok : goal.returns-in-Ok
+returns-in-Ok c = part-found c.in-Ok.is
 
-pub returns-in-Refused : goal.returns-in-Refused
-returns-in-Refused c = part-refused c.in-Refused.is c.fault.ensures
+pub returns-in-Err : goal.returns-in-Err
+returns-in-Err c = part-refused c.in-Err.is c.fault.ensures

@@ -3,8 +3,8 @@
 use Rattle.telling.proofs.Told.{count-done, count-refused}
 use Rattle.telling.proofs.reading.Goals as goal
 
-pub returns-in-Done : goal.returns-in-Done
-returns-in-Done c = count-done c.in-Done.is
+pub returns-in-Ok : goal.returns-in-Ok
+returns-in-Ok c = count-done c.in-Ok.is
 
-pub returns-in-Refused : goal.returns-in-Refused
-returns-in-Refused c = count-refused c.in-Refused.is c.refusal.ensures
+pub returns-in-Err : goal.returns-in-Err
+returns-in-Err c = count-refused c.in-Err.is c.refusal.ensures

@@ -24,10 +24,14 @@ returns-then-n-eq0 c = rw (le-ltb _ _ c.if-count-gt4.false, le-ltb _ _ c.if-part
 pub slice_bounds-bytes-end : goal.slice_bounds-bytes-end
 slice_bounds-bytes-end c = simp length-take (omega arith)
 
-pub returns-then-not-ok : goal.returns-then-not-ok
+pub returns-then-not-is_text : goal.returns-then-not-is_text
 unfolding char_of pick
-returns-then-not-ok c = rw (le-ltb _ _ c.if-count-gt4.false, le-ltb _ _ c.if-part-n.false, no_text _ (sym c.is_text-ok.ensures ∙ c.if-not-ok.true))
+returns-then-not-is_text c = rw (le-ltb _ _ c.if-count-gt4.false, le-ltb _ _ c.if-part-n.false, no_text _ (sym c.is_text.ensures ∙ c.if-not-is_text.true))
 
-pub returns : goal.returns
+pub returns-then-count : goal.returns-then-count
 unfolding char_of pick both
-returns c = rw (le-ltb _ _ c.if-count-gt4.false, le-ltb _ _ c.if-part-n.false, lt-ltb _ _ (some c.if-n-eq0.false), sym c.is_text-ok.ensures ∙ c.if-not-ok.false, c.is_shortest-shortest.ensures, c.first_char-first.ensures)
+returns-then-count c = rw (le-ltb _ _ c.if-count-gt4.false, le-ltb _ _ c.if-part-n.false, lt-ltb _ _ (some c.if-n-eq0.false), sym c.is_text.ensures ∙ c.if-not-is_text.false, c.if-count.true, c.char_size.ensures, c.first_char-first.ensures)
+
+pub returns-else-count : goal.returns-else-count
+unfolding char_of pick both
+returns-else-count c = rw (le-ltb _ _ c.if-count-gt4.false, le-ltb _ _ c.if-part-n.false, lt-ltb _ _ (some c.if-n-eq0.false), sym c.is_text.ensures ∙ c.if-not-is_text.false, c.if-count.false, c.first_char-first.ensures)

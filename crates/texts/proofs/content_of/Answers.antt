@@ -16,10 +16,10 @@ returns-then-part-count c = let a = c.args in rw (lt-ltb (length a.part.now) a.c
 pub slice_bounds-is_content-end : goal.slice_bounds-is_content-end
 slice_bounds-is_content-end c = simp length-take (omega arith)
 
-pub returns-then-not-ok : goal.returns-then-not-ok
+pub returns-then-not-is_content : goal.returns-then-not-is_content
 unfolding content_of pick
-returns-then-not-ok c = rw (le-ltb _ _ c.if-part-count.false, sym c.is_content-ok.ensures ∙ c.if-not-ok.true)
+returns-then-not-is_content c = rw (le-ltb _ _ c.if-part-count.false, sym c.is_content.ensures ∙ c.if-not-is_content.true)
 
 pub returns : goal.returns
 unfolding content_of pick
-returns c = rw (le-ltb _ _ c.if-part-count.false, sym c.is_content-ok.ensures ∙ c.if-not-ok.false, zero-add)
+returns c = rw (le-ltb _ _ c.if-part-count.false, sym c.is_content.ensures ∙ c.if-not-is_content.false, zero-add)

@@ -4,10 +4,10 @@ use Rattle.wire.specs.Reading.{is_content}
 use Rattle.texts.specs.Contents.{content_if}
 use Rattle.texts.proofs.is_content.Goals as goal
 
-pub returns-then-text : goal.returns-then-text
+pub returns-then-not-text : goal.returns-then-not-text
 unfolding content_if is_content
-returns-then-text c = rw c.if-text.true c.is_text.ensures
+returns-then-not-text c = rw c.if-not-text.true
 
-pub returns : goal.returns
+pub returns-else-not-text : goal.returns-else-not-text
 unfolding content_if is_content
-returns c = rw c.if-text.false
+returns-else-not-text c = rw c.if-not-text.false c.is_text.ensures

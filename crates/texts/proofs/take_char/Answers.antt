@@ -14,12 +14,12 @@ unfolding read_plain
 returns-in_default c = let a = c.args in no-count (λ k. char_of k (drop k.used a.part.now)) (as-u64 _ c.take-got.ensures) c.in_default.is
 
 pub slice_bounds-char_of-count : goal.slice_bounds-char_of-count
-slice_bounds-char_of-count c = within _ c.take-got.ensures c.in-Took.is
+slice_bounds-char_of-count c = within _ c.take-got.ensures c.in-Ok.is
 
 pub slice_bounds-char_of-start : goal.slice_bounds-char_of-start
-slice_bounds-char_of-start c = omega (arith, within c.args.part.now c.take-got.ensures c.in-Took.is)
+slice_bounds-char_of-start c = omega (arith, within c.args.part.now c.take-got.ensures c.in-Ok.is)
 
 pub returns : goal.returns
 unfolding read_plain
 returns c = let a = c.args in
-    rw tail at c.char_of.ensures ∙ behind-count (λ k. char_of k (drop k.used a.part.now)) (as-u64 _ c.take-got.ensures) c.in-Took.is
+    rw tail at c.char_of.ensures ∙ behind-count (λ k. char_of k (drop k.used a.part.now)) (as-u64 _ c.take-got.ensures) c.in-Ok.is

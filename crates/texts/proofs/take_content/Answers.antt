@@ -15,12 +15,12 @@ unfolding head
 returns-in_default c = let a = c.args in no-count (λ k. content_of (content_if a.text) 0 k (drop k.used a.part.now)) (as-u64 _ c.take-got.ensures) c.in_default.is
 
 pub slice_bounds-content_of-count : goal.slice_bounds-content_of-count
-slice_bounds-content_of-count c = within _ c.take-got.ensures c.in-Took.is
+slice_bounds-content_of-count c = within _ c.take-got.ensures c.in-Ok.is
 
 pub slice_bounds-content_of-start : goal.slice_bounds-content_of-start
-slice_bounds-content_of-start c = omega (arith, within c.args.part.now c.take-got.ensures c.in-Took.is)
+slice_bounds-content_of-start c = omega (arith, within c.args.part.now c.take-got.ensures c.in-Ok.is)
 
 pub returns : goal.returns
 unfolding head
 returns c = let a = c.args in
-    rw tail at c.content_of.ensures ∙ behind-count (λ k. content_of (content_if a.text) 0 k (drop k.used a.part.now)) (as-u64 _ c.take-got.ensures) c.in-Took.is
+    rw tail at c.content_of.ensures ∙ behind-count (λ k. content_of (content_if a.text) 0 k (drop k.used a.part.now)) (as-u64 _ c.take-got.ensures) c.in-Ok.is

@@ -5,7 +5,7 @@ use Rattle.utf8.proofs.Chars.{no_char}
 use Rattle.utf8.proofs.char_bytes.Goals as goal
 
 pub form-requires : goal.form-requires
-form-requires c = sym c.is_char-is.ensures ∙ c.if-is.true
+form-requires c = sym c.is_char.ensures ∙ c.if-is_char.true
 
-pub returns : goal.returns
-returns c = no_char (sym c.is_char-is.ensures ∙ c.if-is.false)
+pub returns-else-is_char : goal.returns-else-is_char
+returns-else-is_char c = no_char (sym c.is_char.ensures ∙ c.if-is_char.false)

@@ -1,11 +1,7 @@
 -- `utf8::first_char` meets its contract: the loop's invariant is `Point`.
 -- Assumes nothing.
-use Prim.Native.Nat.{◌-◌}
 use Rattle.utf8.proofs.Points.{Point}
 use Rattle.utf8.proofs.first_char.Given as goal
 
 abbrev pub invariant-loop-i : goal.invariant-loop-i
 invariant-loop-i l = Point l.s l.wide l.value l.i
-
-abbrev pub decreases-loop-i : goal.decreases-loop-i
-decreases-loop-i l = l.wide - l.i

@@ -4,10 +4,10 @@ use borrow.Author.Tests.{lt-leb, le-leb}
 use Rattle.wire.specs.Tests.{both}
 use Rattle.utf8.proofs.is_in.Goals as goal
 
-pub returns-then-b-low : goal.returns-then-b-low
+pub returns-then-low-b : goal.returns-then-low-b
 unfolding both
-returns-then-b-low c = rw (lt-leb _ _ c.if-b-low.true)
+returns-then-low-b c = rw (le-leb _ _ c.if-low-b.true)
 
-pub returns : goal.returns
+pub returns-else-low-b : goal.returns-else-low-b
 unfolding both
-returns c = rw (le-leb _ _ c.if-b-low.false)
+returns-else-low-b c = rw (lt-leb _ _ c.if-low-b.false)

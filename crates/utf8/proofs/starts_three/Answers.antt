@@ -13,10 +13,10 @@ returns-then-plain c = let a = c.args in c.is_in.ensures ∙ sym (plain-three (g
 pub returns-then-lead-lt224 : goal.returns-then-lead-lt224
 returns-then-lead-lt224 c = sym (below-e0 _ _ c.if-lead-lt224.true)
 
-pub returns-then-not-second : goal.returns-then-not-second
+pub returns-then-is_second : goal.returns-then-is_second
 unfolding both
-returns-then-not-second c = rw (from-e0 _ _ c.if-lead-lt224.false, sym c.is_second-second.ensures ∙ c.if-not-second.true)
+returns-then-is_second c = rw (from-e0 _ _ c.if-lead-lt224.false, sym c.is_second.ensures ∙ c.if-is_second.true)
 
-pub returns : goal.returns
+pub returns-else-is_second : goal.returns-else-is_second
 unfolding both
-returns c = rw (from-e0 _ _ c.if-lead-lt224.false, sym c.is_second-second.ensures ∙ c.if-not-second.false)
+returns-else-is_second c = c.if-is_second.false ∙ rw (from-e0 _ _ c.if-lead-lt224.false, sym c.is_second.ensures ∙ c.if-is_second.false)

@@ -2,6 +2,7 @@
 -- Assumes nothing.
 use mathlib.Core.Path.{◌≡◌}
 use native.Mathlib.Omega.{arith}
+use borrow.Author.Tests.{ne_eqb}
 use Rattle.write_item.proofs.Judging.{no_second, not-pooled, judges-text, judges-bytes}
 use Rattle.write_item.proofs.fits_rest.Goals as goal
 
@@ -18,4 +19,4 @@ pub returns-in-13 : goal.returns-in-13
 returns-in-13 c = judges-bytes _ _ _ _ _ (omega arith) c.fits_part-in-13.ensures
 
 pub returns-else-second-eq0 : goal.returns-else-second-eq0
-returns-else-second-eq0 c = no_second _ _ _ _ _ (not-pooled _ c.requires.leaf.small (λ l h. omega arith)) (λ e. omega arith)
+returns-else-second-eq0 c = rw (ne_eqb _ _ c.if-second-eq0.false) (no_second _ _ _ _ _ (not-pooled _ c.requires.leaf.small (λ l h. omega arith)) (λ e. omega arith))

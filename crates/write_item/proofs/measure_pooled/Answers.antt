@@ -11,12 +11,12 @@ use Rattle.write_item.proofs.Judging.{judges-pooled}
 use Rattle.write_item.proofs.Spelling.{spells-part, length-form}
 use Rattle.write_item.proofs.measure_pooled.Goals as goal
 
-pub returns-then-fits : goal.returns-then-fits
-returns-then-fits c = let fits = c.fits_part-fits.ensures in
-    let yes = c.if-fits.true in
+pub returns : goal.returns
+returns c = let fits = c.fits_part-fits.ensures in
+    let yes = c.if-not-fits.false in
     let inside = leb-true _ _ (both_left _ _ (sym fits ∙ yes)) in
     let form = length-form _ _ _ inside c.size-size.ensures in
-    record { holds = (sym (judges-pooled _ _ _ _ 0 c.requires.0 c.requires.1 fits) ∙ yes, spells-part _ _ _ (puts-beyond (omega arith) form (c.add-used.ensures ∙ ap cap (sym (zero-add _)))) _ c.requires.0 c.requires.1) }
+    record { holds = (sym (judges-pooled _ _ _ _ 0 c.requires.0 c.requires.1 fits) ∙ yes, spells-part _ _ _ (puts-beyond (omega arith) form (c.add.ensures ∙ ap cap (sym (zero-add _)))) _ c.requires.0 c.requires.1) }
 
-pub returns : goal.returns
-returns c = record { holds = (sym (judges-pooled _ _ _ _ 0 c.requires.0 c.requires.1 c.fits_part-fits.ensures) ∙ c.if-fits.false, refl) }
+pub returns-then-not-fits : goal.returns-then-not-fits
+returns-then-not-fits c = record { holds = (sym (judges-pooled _ _ _ _ 0 c.requires.0 c.requires.1 c.fits_part-fits.ensures) ∙ c.if-not-fits.true, refl) }

@@ -67,38 +67,38 @@ put_item-returns t c = let leaf : IsLeaf _ = record {
 
 pub inner_item-overflow_add-next : goal.inner_item-overflow_add-next
 unfolding room_of
-inner_item-overflow_add-next t c = omega (arith, (entered_on c.enter-entered.ensures c.in-On.is).more)
+inner_item-overflow_add-next t c = omega (arith, (entered_on c.enter.ensures c.in-Some.is).more)
 
 pub inner_item-returns-then-to-eq0 : goal.inner_item-returns-then-to-eq0
-inner_item-returns-then-to-eq0 t c = going_end (entered_on c.enter-entered.ensures c.in-On.is).going (rounds-end _ _ _ _ _ _ _ _ (omega arith))
+inner_item-returns-then-to-eq0 t c = going_end (entered_on c.enter.ensures c.in-Some.is).going (rounds-end _ _ _ _ _ _ _ _ (omega arith))
 
 pub inner_item-flat-way-requires : goal.inner_item-flat-way-requires
-inner_item-flat-way-requires t c = record { good_table = c.requires.good_table; node_le_nodes = omega (arith, c.requires.node_lt_nodes); falls = (entered_on c.enter-entered.ensures c.in-On.is).falls }
+inner_item-flat-way-requires t c = record { good_table = c.requires.good_table; node_le_nodes = omega (arith, c.requires.node_lt_nodes); falls = (entered_on c.enter.ensures c.in-Some.is).falls }
 
 pub inner_item-put_rounds-requires : goal.inner_item-put_rounds-requires
 inner_item-put_rounds-requires t c = let w = flattens c.requires.good_table (omega (arith, c.requires.node_lt_nodes)) c.flat-way.ensures in
-    (inner-rounds _ c.decreases, (c.requires.good_table, (omega (arith, c.requires.node_lt_nodes), (flattened-falls w, flat-sure w _ _ _ (sure-rest (few_bytes _ c.well_formed.1.1.1.1.1.1.1.0.1) (entered_on c.enter-entered.ensures c.in-On.is).going c.requires.sure)))))
+    (inner-rounds _ c.decreases, (c.requires.good_table, (omega (arith, c.requires.node_lt_nodes), (flattened-falls w, flat-sure w _ _ _ (sure-rest (few_bytes _ c.well_formed.1.1.1.1.1.1.1.0.1) (entered_on c.enter.ensures c.in-Some.is).going c.requires.sure)))))
 
-pub inner_item-returns-in-Misfit : goal.inner_item-returns-in-Misfit
-inner_item-returns-in-Misfit t c = gives-misfit (entered-misfit c.enter-entered.ensures c.in-Misfit.is)
+pub inner_item-returns-in_default : goal.inner_item-returns-in_default
+inner_item-returns-in_default t c = gives-misfit (entered-misfit c.enter.ensures c.in_default.is)
 
-pub inner_item-returns-else-to-eq0 : goal.inner_item-returns-else-to-eq0
-inner_item-returns-else-to-eq0 t c = gives_whole (few_bytes _ c.well_formed.1.1.1.1.1.1.1.0.1) (entered_on c.enter-entered.ensures c.in-On.is).going (flat-gives (flattens c.requires.good_table (omega (arith, c.requires.node_lt_nodes)) c.flat-way.ensures) _ _ _ c.put_rounds.ensures)
+pub inner_item-returns : goal.inner_item-returns
+inner_item-returns t c = gives_whole (few_bytes _ c.well_formed.1.1.1.1.1.1.1.0.1) (entered_on c.enter.ensures c.in-Some.is).going (flat-gives (flattens c.requires.good_table (omega (arith, c.requires.node_lt_nodes)) c.flat-way.ensures) _ _ _ c.put_rounds.ensures)
 
 pub put_rounds-returns-in_default : goal.put_rounds-returns-in_default
-put_rounds-returns-in_default t c = gives-misfit (no-going-on (few_bytes _ c.well_formed.1.1.1.1.1.1.1.1.1.1.0.1) c.loop-left.invariant.0 (round-misfit _ _ _ _ _ _ _ c.begin-begun.ensures c.loop-left-test.true c.in_default.is))
+put_rounds-returns-in_default t c = gives-misfit (no-going-on (few_bytes _ c.well_formed.1.1.1.1.1.1.1.1.1.1.0.1) c.loop-left.invariant.0 (round-misfit _ _ _ _ _ _ _ c.begin.ensures c.loop-left-test.true c.in_default.is))
 
 pub put_rounds-put_stretch-got-requires : goal.put_rounds-put_stretch-got-requires
-put_rounds-put_stretch-got-requires t c = (rounds-stretch _ c.decreases, (c.requires.good_table, (c.requires.node_le_nodes, (c.requires.falls, sure-first (few_bytes _ c.well_formed.1.1.1.1.1.1.1.1.1.1.0.1) c.loop-left.invariant.0 (round-first _ _ _ _ _ _ _ c.begin-begun.ensures c.loop-left-test.true c.in-At.is) c.requires.sure))))
+put_rounds-put_stretch-got-requires t c = (rounds-stretch _ c.decreases, (c.requires.good_table, (c.requires.node_le_nodes, (c.requires.falls, sure-first (few_bytes _ c.well_formed.1.1.1.1.1.1.1.1.1.1.0.1) c.loop-left.invariant.0 (round-first _ _ _ _ _ _ _ c.begin.ensures c.loop-left-test.true c.in-Some.is) c.requires.sure))))
 
 pub put_rounds-returns-in_default-got : goal.put_rounds-returns-in_default-got
-put_rounds-returns-in_default-got t c = first-misfit (few_bytes _ c.well_formed.1.1.1.1.1.1.1.1.1.1.0.1) c.loop-left.invariant.0 (round-first _ _ _ _ _ _ _ c.begin-begun.ensures c.loop-left-test.true c.in-At.is) c.put_stretch-got.ensures c.in_default-got.is
+put_rounds-returns-in_default-got t c = first-misfit (few_bytes _ c.well_formed.1.1.1.1.1.1.1.1.1.1.0.1) c.loop-left.invariant.0 (round-first _ _ _ _ _ _ _ c.begin.ensures c.loop-left-test.true c.in-Some.is) c.put_stretch-got.ensures c.in_default-got.is
 
 pub put_rounds-loop-left-init : goal.put_rounds-loop-left-init
 put_rounds-loop-left-init t c = (going-begin _ _ _ (omega arith), refl)
 
 pub put_rounds-loop-left-preserved : goal.put_rounds-loop-left-preserved
-put_rounds-loop-left-preserved t c = (first_done (few_bytes _ c.well_formed.1.1.1.1.1.1.1.1.1.1.0.1) c.loop-left.invariant.0 (round-first _ _ _ _ _ _ _ c.begin-begun.ensures c.loop-left-test.true c.in-At.is) c.put_stretch-got.ensures c.in-Done.is, search rules)
+put_rounds-loop-left-preserved t c = (first_done (few_bytes _ c.well_formed.1.1.1.1.1.1.1.1.1.1.0.1) c.loop-left.invariant.0 (round-first _ _ _ _ _ _ _ c.begin.ensures c.loop-left-test.true c.in-Some.is) c.put_stretch-got.ensures c.in-Ok.is, search rules)
 
 pub put_rounds-returns : goal.put_rounds-returns
 put_rounds-returns t c = going_end c.loop-left.invariant.0 (rounds-end _ _ _ _ _ _ _ _ c.loop-left-test.false)
@@ -115,7 +115,7 @@ put_stretch-loop-left-init t c = (going-begin _ _ _ (omega arith), c.requires.fa
 
 pub put_stretch-loop-left-preserved : goal.put_stretch-loop-left-preserved
 put_stretch-loop-left-preserved t c = (
-  first_done (few_bytes _ c.well_formed.1.1.1.1.1.1.1.1.0.1) c.loop-left.invariant.0 (stretch-first _ _ _ _ _ _ c.u16_at-c.ensures.0 c.loop-left-test.true) c.put_item-got.ensures c.in-Done.is,
+  first_done (few_bytes _ c.well_formed.1.1.1.1.1.1.1.1.0.1) c.loop-left.invariant.0 (stretch-first _ _ _ _ _ _ c.u16_at-c.ensures.0 c.loop-left-test.true) c.put_item-got.ensures c.in-Ok.is,
   falls-next c.loop-left.invariant.1 c.loop-left-test.true,
   search rules,
 )

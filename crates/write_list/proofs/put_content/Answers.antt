@@ -9,8 +9,8 @@ pub overflow_add-next : goal.overflow_add-next
 unfolding room_of
 overflow_add-next c = omega (arith, c.requires.at_bound)
 
-pub returns-in-Misfit : goal.returns-in-Misfit
-returns-in-Misfit c = content-none c.put_pooled-got.ensures c.in-Misfit.is
+pub returns-in_default : goal.returns-in_default
+returns-in_default c = content-none c.put_pooled.ensures c.in_default.is
 
-pub returns-in-Put : goal.returns-in-Put
-returns-in-Put c = content-put c.put_pooled-got.ensures c.requires.le_number.0 c.requires.le_number.1 c.requires.at_bound c.first-first.ensures c.second-second.ensures c.in-Put.is
+pub returns : goal.returns
+returns c = content-put c.put_pooled.ensures c.requires.le_number.0 c.requires.le_number.1 c.requires.at_bound c.first-first.ensures c.second-second.ensures c.in-Some.is

@@ -24,10 +24,10 @@ pub put_ints-ints-requires : goal.put_ints-ints-requires
 put_ints-ints-requires c = let g = good-table _ _ c.requires in record { good_table = g; falls = flat-falls g (omega arith) c.flat-way.ensures }
 
 pub returns-then-ints-eq0 : goal.returns-then-ints-eq0
-returns-then-ints-eq0 c = ints-reach _ c.requires _ c.root_at-from.ensures (flattens (good-table _ _ c.requires) (omega arith) c.flat-way.ensures) c.begin-begun.ensures c.in-At.is c.put_ints-ints.ensures _
+returns-then-ints-eq0 c = ints-reach _ c.requires _ c.root_at-from.ensures (flattens (good-table _ _ c.requires) (omega arith) c.flat-way.ensures) c.begin-begun.ensures c.in-Some.is c.put_ints-ints.ensures _
 
 pub put_leaves-requires : goal.put_leaves-requires
 put_leaves-requires c = record { good_table = good-table _ _ c.requires; falls = c.put_ints-ints.ensures.falls }
 
 pub returns : goal.returns
-returns c = reaches-on (few_bytes _ c.well_formed.1.1.1.1.0.1) (ints-reach _ c.requires _ c.root_at-from.ensures (flattens (good-table _ _ c.requires) (omega arith) c.flat-way.ensures) c.begin-begun.ensures c.in-At.is c.put_ints-ints.ensures _) c.put_leaves.ensures
+returns c = reaches-on (few_bytes _ c.well_formed.1.1.1.1.0.1) (ints-reach _ c.requires _ c.root_at-from.ensures (flattens (good-table _ _ c.requires) (omega arith) c.flat-way.ensures) c.begin-begun.ensures c.in-Some.is c.put_ints-ints.ensures _) c.put_leaves.ensures

@@ -15,13 +15,13 @@ unfolding room_of
 second-second-requires c = omega (arith, c.requires.words_len)
 
 pub returns-then-out-n : goal.returns-then-out-n
-returns-then-out-n c = alone-full _ c.requires.le_number.0 c.requires.le_number.1 c.requires.words_len c.first-first.ensures c.second-second.ensures c.measure_pooled-got.ensures _ (few_bytes _ c.well_formed.1.1.1.0.1) c.in-Put.is (omega arith)
+returns-then-out-n c = alone-full _ c.requires.le_number.0 c.requires.le_number.1 c.requires.words_len c.first-first.ensures c.second-second.ensures c.measure_pooled.ensures _ (few_bytes _ c.well_formed.1.1.1.0.1) c.in-Some.is (omega arith)
 
 pub put_part-requires : goal.put_part-requires
-put_part-requires c = inside c.requires.le_number.0 c.requires.le_number.1 c.measure_pooled-got.ensures c.in-Put.is
+put_part-requires c = inside c.requires.le_number.0 c.requires.le_number.1 c.measure_pooled.ensures c.in-Some.is
 
-pub returns-in-Misfit : goal.returns-in-Misfit
-returns-in-Misfit c = alone-misfit _ c.requires.le_number.0 c.requires.le_number.1 c.requires.words_len c.first-first.ensures c.second-second.ensures c.measure_pooled-got.ensures _ (few_bytes _ c.well_formed.1.1.1.0.1) c.in-Misfit.is
+pub returns-in_default : goal.returns-in_default
+returns-in_default c = alone-misfit _ c.requires.le_number.0 c.requires.le_number.1 c.requires.words_len c.first-first.ensures c.second-second.ensures c.measure_pooled.ensures _ (few_bytes _ c.well_formed.1.1.1.0.1) c.in_default.is
 
-pub returns-else-out-n : goal.returns-else-out-n
-returns-else-out-n c = alone-put _ c.requires.le_number.0 c.requires.le_number.1 c.requires.words_len c.first-first.ensures c.second-second.ensures c.measure_pooled-got.ensures _ (few_bytes _ c.well_formed.1.1.1.0.1) c.in-Put.is (omega arith) c.put_part.ensures
+pub returns : goal.returns
+returns c = alone-put _ c.requires.le_number.0 c.requires.le_number.1 c.requires.words_len c.first-first.ensures c.second-second.ensures c.measure_pooled.ensures _ (few_bytes _ c.well_formed.1.1.1.0.1) c.in-Some.is (omega arith) c.put_part.ensures

@@ -4,4 +4,4 @@ use Rattle.laws.proofs.Tables.{good-table}
 use Rattle.listing.proofs.entries.show_made.Goals as goal
 
 pub show_entries-requires : goal.show_entries-requires
-show_entries-requires g c = good-table _ _ (sym c.check.ensures ∙ c.in-Good.is)
+show_entries-requires g c = good-table _ _ (sym c.check.ensures ∙ c.in-Ok.is)

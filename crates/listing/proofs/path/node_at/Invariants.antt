@@ -2,5 +2,5 @@
 use Rattle.std.proofs.Common.{◌<◌}
 use Rattle.listing.proofs.path.node_at.Given as goal
 
-abbrev pub invariant-loop-i : goal.invariant-loop-i
-invariant-loop-i g l = l.node < l.l.nodes
+abbrev pub invariant-loop-position : goal.invariant-loop-position
+invariant-loop-position g l = l.node < l.l.nodes

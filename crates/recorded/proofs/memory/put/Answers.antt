@@ -7,20 +7,20 @@ use lib.ListN.{length-set}
 use Rattle.recorded.proofs.Puts.{puts-more, puts-full, puts-all}
 use Rattle.recorded.proofs.memory.put.Goals as goal
 
-pub loop-i-init : goal.loop-i-init
-loop-i-init c = (record { within = omega arith; same = refl }, refl)
+pub loop-byte-init : goal.loop-byte-init
+loop-byte-init c = (record { within = omega arith; same = refl }, refl)
 
 pub shape_of-memory-then-memory-at : goal.shape_of-memory-then-memory-at
-shape_of-memory-then-memory-at c = c.loop-i.invariant.1
+shape_of-memory-then-memory-at c = c.loop-byte.invariant.1
 
 pub returns-then-memory-at : goal.returns-then-memory-at
-returns-then-memory-at c = puts-full c.loop-i.invariant.0 c.if-memory-at.true
+returns-then-memory-at c = puts-full c.loop-byte.invariant.0 c.if-memory-at.true
 
-pub loop-i-preserved : goal.loop-i-preserved
-loop-i-preserved c = (puts-more c.loop-i.invariant.0 c.loop-i-test.true, simp length-set c.loop-i.invariant.1)
+pub loop-byte-preserved : goal.loop-byte-preserved
+loop-byte-preserved c = (puts-more c.loop-byte.invariant.0 c.loop-byte-test.true, simp length-set c.loop-byte.invariant.1)
 
 pub shape_of-memory : goal.shape_of-memory
-shape_of-memory c = c.loop-i.invariant.1
+shape_of-memory c = c.loop-byte.invariant.1
 
 pub returns : goal.returns
-returns c = puts-all c.loop-i.invariant.0 c.loop-i-test.false
+returns c = puts-all c.loop-byte.invariant.0 c.loop-byte-test.false

@@ -67,7 +67,12 @@ fn read_item(
     let number = table::kind_at(table, l, node);
     if !strict {
         if let Some(item) = read_item::int_bytes(number, part) {
-            return read_item::lay(item, place, store, made);
+            let got = read_item::lay(item, place, store, made);
+            // Made anew, so that it does not go through memory with other answers.
+            let Ok(read) = got else {
+                return got;
+            };
+            return Ok(read);
         }
     }
     if table::is_inner(number) {

@@ -82,12 +82,13 @@ fn ended(first: u64, used: usize, b: u64) -> Own
     }
 }
 
-// A varint of a width at the start of `part`. The compiler makes a function of its own for each width, in which it folds the
-// tests of the constants.
-pub fn take<W: Width>(part: &[u8]) -> Result<Own, Refusal>
-    ensures { result ≡ takes W.MOST W.LAST part.now }
+// A varint of at most `most` bytes at the start of `part`, of which the last allowed is at most `last`. It is inlined, so that at
+// a width's constants the compiler folds the tests.
+#[inline(always)]
+pub fn take_by(part: &[u8], most: usize, last: u64) -> Result<Own, Refusal>
+    ensures { result ≡ takes most last part.now }
 {
-    if limit(W::MOST) <= W::LAST {
+    if limit(most) <= last {
         return Err(Refusal::BadVarint);
     }
     let mut value: u64 = 0;
@@ -95,8 +96,8 @@ pub fn take<W: Width>(part: &[u8]) -> Result<Own, Refusal>
     for (i, byte) in part.iter().enumerate() {
         let b = *byte as u64;
         let used = i + 1;
-        if used == W::MOST {
-            if W::LAST < b {
+        if used == most {
+            if last < b {
                 return Err(Refusal::BadVarint);
             }
             return Ok(ended(value + scale * b, used, b));
@@ -108,6 +109,14 @@ pub fn take<W: Width>(part: &[u8]) -> Result<Own, Refusal>
         scale *= 128;
     }
     Err(Refusal::End)
+}
+
+// A varint of a width.
+#[inline(always)]
+pub fn take<W: Width>(part: &[u8]) -> Result<Own, Refusal>
+    ensures { result ≡ takes W.MOST W.LAST part.now }
+{
+    take_by(part, W::MOST, W::LAST)
 }
 
 pub fn take_u16(part: &[u8]) -> Result<Own, Refusal>

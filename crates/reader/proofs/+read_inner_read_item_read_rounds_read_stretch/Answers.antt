@@ -56,12 +56,16 @@ read_inner-returns-else-to-eq0 t c = goes_on (entered_on _ _ c.requires.good_tab
 pub read_item-returns-then-room-made : goal.read_item-returns-then-room-made
 read_item-returns-then-room-made t c = gives-refused (item-full _ _ c.requires.good_table c.requires.node_lt_nodes _ _ _ (omega arith))
 
-pub read_item-lay-requires : goal.read_item-lay-requires
-read_item-lay-requires t c = record { ends = int-ends _ c.int_bytes.ensures c.in-Some.is c.requires.part_bound; made_bound = omega arith }
+pub read_item-lay-got-requires : goal.read_item-lay-got-requires
+read_item-lay-got-requires t c = record { ends = int-ends _ c.int_bytes.ensures c.in-Some.is c.requires.part_bound; made_bound = omega arith }
+
+pub read_item-returns-in_default-got : goal.read_item-returns-in_default-got
+read_item-returns-in_default-got t c = let taken = int-taken _ c.int_bytes.ensures c.in-Some.is c.requires.part_bound in
+    int-gives _ _ c.requires.good_table c.requires.node_lt_nodes _ _ _ _ (omega arith) _ c.kind_at-number.ensures taken.0 c.if-not-strict.true c.requires.part_bound taken.1 c.lay-got.ensures
 
 pub read_item-returns-in-Some : goal.read_item-returns-in-Some
 read_item-returns-in-Some t c = let taken = int-taken _ c.int_bytes.ensures c.in-Some.is c.requires.part_bound in
-    int-gives _ _ c.requires.good_table c.requires.node_lt_nodes _ _ _ _ (omega arith) _ c.kind_at-number.ensures taken.0 c.if-not-strict.true c.requires.part_bound taken.1 c.lay.ensures
+    gives_as c.in-Ok.is (int-gives _ _ c.requires.good_table c.requires.node_lt_nodes _ _ _ _ (omega arith) _ c.kind_at-number.ensures taken.0 c.if-not-strict.true c.requires.part_bound taken.1 c.lay-got.ensures)
 
 pub read_item-read_inner-requires : goal.read_item-read_inner-requires
 read_item-read_inner-requires t c = let low : c.args.node * 4 + 2 < c.args.node * 4 + 3 = omega arith in

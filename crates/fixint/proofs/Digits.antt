@@ -1,6 +1,6 @@
 -- The bytes that std makes of a word, and the word that it makes of bytes, are those of the documents.
 -- Assumes nothing.
-use Rattle.std.proofs.Common.{◌≡◌, refl, sym, ap, ◌∙◌, ℕ, zero, suc, ◌+◌, ◌-◌, ◌/◌, ◌%◌, ◌^◌, ◌<◌, ◌≤◌, List, [], ◌∷◌, ◌++◌, length, take, drop, replicate, get_or, arith, inl, inr}
+use Rattle.std.proofs.Common.{◌≡◌, refl, sym, ap, ◌∙◌, ℕ, zero, suc, ◌+◌, ◌-◌, ◌/◌, ◌%◌, ◌^◌, ◌<◌, ◌≤◌, min, List, [], ◌∷◌, ◌++◌, length, take, drop, replicate, get_or, arith, inl, inr}
 use Rattle.std.proofs.Math.Nat.{div-div-eq-div-mul, pow-suc, mod-eq_of_lt}
 use Rattle.std.proofs.lemmas.Bool.{cases_lt}
 use Rattle.std.proofs.lemmas.List.{append-nil, reverse-append, reverse-reverse, length-reverse, length-append, drop-replicate, take-replicate, drop_all, take_all, length-replicate}
@@ -50,32 +50,39 @@ take-low zero k x h = refl
 take-low (suc n) zero x h = absurd (omega arith)
 take-low (suc n) (suc k) x h = ap (λ (s : List ℕ). x % 256 ∷ s) (take-low n k (x / 256) (omega arith))
 
-drop-high : (k n x : ℕ) → n ≤ k → drop (k - n) (bytes_high_first k x) ≡ bytes_high_first n x
-drop-high zero n x h = let e : n ≡ 0 = omega arith in rw e refl
-drop-high (suc k) n x h = elim (cases_lt k n) [
-  | inl top ↦
-      let e : n ≡ suc k = omega arith in
-      let z : suc k - n ≡ 0 = omega arith in
-      rw (z, e) refl
-  | inr lower ↦
-      let e : suc k - n ≡ suc (k - n) = omega arith in
-      rw e (drop-high k n x lower)
-]
+none-low : (k : ℕ) → little_bytes k 0 ≡ replicate k 0
+unfolding little_bytes
+none-low zero = refl
+none-low (suc k) = ap (λ (s : List ℕ). 0 ∷ s) (none-low k)
+
+-- a number that fits j bytes has zeros behind them
+low-behind : (j k x : ℕ) → x < 256 ^ j → little_bytes (j + k) x ≡ little_bytes j x ++ replicate k 0
+unfolding little_bytes
+low-behind zero k x h = let e : x ≡ 0 = omega arith in let here : 0 + k ≡ k = omega arith in rw (e, here) (none-low k)
+low-behind (suc j) k x h =
+    let e : suc j + k ≡ suc (j + k) = omega arith in
+    let fits : x / 256 < 256 ^ j = omega (arith, pow-suc 256 j) in
+    rw e (ap (λ (s : List ℕ). x % 256 ∷ s) (low-behind j k (x / 256) fits))
 
 low-word : (x : ℕ) → to_le_bytes w64 x ≡ little_bytes 8 x
 low-word x = low 0 8 x x (omega arith)
 
--- the lowest n bytes, the lowest first
-pub low-bytes : (n x : ℕ) → n ≤ 8 → take n (to_le_bytes w64 x) ≡ in_order le (little_bytes n x)
-unfolding in_order
-low-bytes n x h = rw (low-word x) (take-low n 8 x h)
+-- of n bytes those that the word has not are zeros
+zeros-behind : (n m x : ℕ) → m ≡ min n 8 → x < 2 ^ 64 → take m (little_bytes 8 x) ++ drop m (replicate n 0) ≡ little_bytes n x
+zeros-behind n m x e h = elim (cases_lt 8 n) [
+  | inl many ↦
+      let eight : m ≡ 8 = omega (arith, e) in
+      let whole : 8 + (n - 8) ≡ n = omega arith in
+      rw (eight, take_all 8 (little_bytes 8 x) (omega (arith, length-little_bytes 8 x)), drop-replicate {X = ℕ} 8 n 0) (sym (low-behind 8 (n - 8) x h) ∙ ap (λ k. little_bytes k x) whole)
+  | inr few ↦
+      let all : m ≡ n = omega (arith, e) in
+      let none : n - n ≡ 0 = omega arith in
+      rw (all, take-low n 8 x few, drop-replicate {X = ℕ} n n 0, none) (append-nil (little_bytes n x))
+]
 
--- the same, the highest first, cut from the word's as a range is
-pub high-bytes : (n x : ℕ) → n ≤ 8 → take (8 - (8 - n)) (drop (8 - n) (to_be_bytes w64 x)) ≡ in_order be (little_bytes n x)
-unfolding in_order
-high-bytes n x h =
-    let many : 8 - (8 - n) ≡ n = omega arith in
-    rw (many, drop-high 8 n x h, high n x) (take_all n _ (omega (arith, length-reverse (little_bytes n x), length-little_bytes n x)))
+-- the lowest n bytes, the lowest first: the word's, and zeros behind them
+pub low-bytes : (n m x : ℕ) → m ≡ min n 8 → x < 2 ^ 64 → take m (to_le_bytes w64 x) ++ drop m (replicate n 0) ≡ little_bytes n x
+low-bytes n m x e h = ap (λ s. take m s ++ drop m (replicate n 0)) (low-word x) ∙ zeros-behind n m x e h
 
 -- ---- the word of bytes
 

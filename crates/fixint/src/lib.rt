@@ -10,16 +10,15 @@ ghost use Rattle.fixint.specs.Sizes.{order_of, sign_of, byte_of, IsSize, number_
 
 use wire::{Own, Refusal};
 
-// The lowest N bytes of a word, the lowest of them first or last.
+// The lowest N bytes of a word, and zeros where it has no more, the lowest first; for big-endian they are reversed.
 pub fn bytes<const N: usize>(x: u64, big: bool) -> [u8; N]
-    requires { N ≤ 8 }
     ensures { result ≡ in_order (order_of big) (little_bytes N x) }
 {
+    let few = N.min(8);
     let mut bytes = [0; N];
+    bytes[..few].copy_from_slice(&x.to_le_bytes()[..few]);
     if big {
-        bytes.copy_from_slice(&x.to_be_bytes()[8 - N..]);
-    } else {
-        bytes.copy_from_slice(&x.to_le_bytes()[..N]);
+        bytes.reverse();
     }
     bytes
 }

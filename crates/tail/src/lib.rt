@@ -6,5 +6,5 @@ ghost use Rattle.std.specs.Prelude.{◌≡◌, drop};
 pub fn from(bytes: &[u8], place: usize) -> &[u8]
     ensures { result.now ≡ drop place bytes.now }
 {
-    bytes.get(place..).unwrap_or(&[])
+    &bytes[place.min(bytes.len())..]
 }

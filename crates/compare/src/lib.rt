@@ -51,7 +51,9 @@ fn put_front(list: &mut [u64], words: &[u64], count: usize)
     requires { (count ≤ length list.old) × (count ≤ length words.now) }
     ensures { list.new ≡ take count words.now ++ drop count list.old }
 {
-    list[..count].copy_from_slice(&words[..count]);
+    for i in 0..count {
+        list[i] = words[i];
+    }
 }
 
 // The pairs of two messages that are both read go into the list, which has room for them: those that were kept, or all by

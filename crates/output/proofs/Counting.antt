@@ -3,14 +3,12 @@
 -- Assumes nothing.
 use mathlib.Core.Path.{◌≡◌, refl, sym, ap, ◌∙◌}
 use mathlib.Core.List.{List, [], ◌++◌}
-use Prim.Native.Nat.{ℕ, ◌+◌, ◌-◌, ◌^◌, ◌<◌, ◌≤◌}
+use Prim.Native.Nat.{ℕ, suc, ◌+◌, ◌-◌, ◌^◌, ◌<◌, ◌≤◌}
 use native.Mathlib.Omega.{arith}
 use native.Mathlib.Nat.{add-zero}
-use lib.ListN.{length, take, drop, drop_of_length-le, length-append}
-use lib.Seq.{sets, length-sets, length-take-le}
-use borrow.Rule.Slice.PartMut.{put_mid}
-use Rattle.std.proofs.lemmas.List.{append_assoc, take-append-drop, drop-drop}
-use Rattle.std.proofs.lemmas.List.Edits.{sets-eq}
+use native.Mathlib.Numerals.{add-one}
+use lib.ListN.{length, length-set, set, drop, get_or, drop_of_length-le, length-append}
+use lib.Seq.{sets, length-sets, drop-cons}
 use borrow.Author.Tests.{lt-ltb, le-ltb}
 use Rattle.wire.specs.Tests.{pick}
 use Rattle.laws.proofs.Splits.{by-lt}
@@ -66,25 +64,33 @@ puts-both {s} {t} {u} {n} {m} {out} {mid} {end} h p q =
           ∙ ap (λ o. sets o (u + length s) t) p.stored ∙ sets-append out u s t;
     }
 
--- ---- bytes of which `count` have a place
+-- ---- a loop that puts bytes: those from i on are left, and `count` of all have a place
 
-module _ (bytes : List ℕ) (u : ℕ) (out : List ℕ) (count : ℕ) (w : Places (length out) u (length bytes) count) where
-  -- the others have none
-  others : sets out u (take count bytes) ≡ sets out u bytes
-  others =
-      let all : length (take count bytes) ≡ count = length-take-le count bytes w.few in
-      sym
-      (ap (sets out u) (sym (take-append-drop count bytes)) ∙ sym (sets-append out u (take count bytes) (drop count bytes))
-      ∙ by-lt count (length bytes)
-      (λ l. sets-out (drop count bytes) (sets out u (take count bytes)) (u + length (take count bytes)) (omega (arith, length-sets out u (take count bytes), w.all l)))
-      (λ l. ap (sets (sets out u (take count bytes)) (u + length (take count bytes))) (drop_of_length-le bytes {i = count} l)))
+pub record Putting (bytes : List ℕ) (u : ℕ) (before : List ℕ) (count i : ℕ) (out : List ℕ) : Type 0 where
+  pub same : sets out (u + i) (drop i bytes) ≡ sets before u bytes
+  pub long : length out ≡ length before
+  pub few : i ≤ count
 
-  pub puts-front : 0 < count → put_mid u (u + count - u) out (take count bytes) ≡ sets out u bytes
-  puts-front p =
-      let all : length (take count bytes) ≡ count = length-take-le count bytes w.few in
-      let cut : u + count - u ≡ count = omega arith in
-      rw (cut, drop-drop, ← append_assoc) (sym (rw all at (sets-eq (take count bytes) out u (omega (arith, w.inside))))) ∙ others
+pub putting-begin : (bytes : List ℕ) (u : ℕ) (out : List ℕ) (count : ℕ) → Putting bytes u out count 0 out
+putting-begin bytes u out count = record { same = ap (λ k. sets out k bytes) (add-zero u); long = refl; few = omega arith }
 
-  -- none has
-  pub puts-nothing : count ≤ 0 → out ≡ sets out u bytes
-  puts-nothing p = let z : count ≡ 0 = omega arith in rw z at others
+module _ {bytes : List ℕ} {u : ℕ} {before : List ℕ} {count i : ℕ} {out : List ℕ} (p : Putting bytes u before count i out) (w : Places (length before) u (length bytes) count) where
+  pub putting-next : (b : ℕ) → i < count → b ≡ get_or bytes i 0 → Putting bytes u before count (i + 1) (set out (u + i) b)
+  putting-next b h e =
+      let next : u + (i + 1) ≡ suc (u + i) = omega arith in
+      record {
+        same = rw (next, add-one i, e) (ap (sets out (u + i)) (sym (drop-cons bytes i 0 (omega (arith, w.few)))) ∙ p.same);
+        long = length-set out (u + i) b ∙ p.long;
+        few = omega arith;
+      }
+
+  -- all were put, or the others have no place
+  pub putting-end : {r : ℕ} → r ≡ cap (u + length bytes) → count ≤ i → Puts bytes u before r out
+  putting-end e h =
+      record {
+        counted = e;
+        stored =
+            by-lt i (length bytes)
+            (λ l. sym (sets-out (drop i bytes) out (u + i) (omega (arith, p.long, p.few, w.all (omega (arith, p.few))))) ∙ p.same)
+            (λ l. ap (sets out (u + i)) (sym (drop_of_length-le bytes {i = i} l)) ∙ p.same);
+      }

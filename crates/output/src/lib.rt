@@ -27,8 +27,8 @@ pub fn put_bytes(bytes: &[u8], out: &mut [u8], used: usize) -> usize
     ensures { Puts bytes.now used out.old result out.new }
 {
     let count = places(out.len(), used, bytes.len());
-    if 0 < count {
-        out[used..used + count].copy_from_slice(&bytes[..count]);
+    for i in 0..count {
+        out[used + i] = bytes[i];
     }
     add(used, bytes.len())
 }

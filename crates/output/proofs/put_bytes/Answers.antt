@@ -1,19 +1,15 @@
--- `output::put_bytes` meets its contract: those that have a place are copied at once.
+-- `output::put_bytes` meets its contract: the bytes from `i` on are left, and there is a place for each that is stored.
 -- Assumes nothing.
-use mathlib.Core.Path.{ap, ◌∙◌}
-use Prim.Native.Nat.{◌+◌, ◌-◌}
-use borrow.Rule.Slice.PartMut.{put_mid}
-use Rattle.output.proofs.Counting.{puts-front, puts-nothing}
-use Rattle.output.proofs.put_bytes.Goals.{then-count-gt0, else-count-gt0}
+use mathlib.Core.Path.{refl}
+use native.Mathlib.Omega.{arith}
+use Rattle.output.proofs.Counting.{putting-begin, putting-next, putting-end}
 use Rattle.output.proofs.put_bytes.Goals as goal
 
+pub loop-i-init : goal.loop-i-init
+loop-i-init c = putting-begin _ _ _ _
+
+pub loop-i-preserved : goal.loop-i-preserved
+loop-i-preserved c = putting-next c.loop-i.invariant c.places-count.ensures _ (omega arith) refl
+
 pub returns : goal.returns
-returns c = let a = c.args in let k = c.places-count.result in
-    elim c.if-count-gt0.branch [
-      | then-count-gt0 w ↦
-          record {
-            counted = c.add.ensures;
-            stored = w.out-is ∙ ap (put_mid a.used (a.used + k - a.used) a.out.now) w.copy_from_slice.ensures.after ∙ puts-front a.bytes.now a.used a.out.now k c.places-count.ensures w.if-count-gt0.true;
-          }
-      | else-count-gt0 w ↦ record { counted = c.add.ensures; stored = w.out-is ∙ puts-nothing a.bytes.now a.used a.out.now k c.places-count.ensures w.if-count-gt0.false }
-    ]
+returns c = putting-end c.loop-i.invariant c.places-count.ensures c.add.ensures (omega arith)

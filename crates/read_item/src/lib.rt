@@ -62,7 +62,8 @@ fn judge(strict: bool, got: Result<Own, Refusal>) -> Result<Own, Refusal>
     let Ok(own) = got else {
         return got;
     };
-    if strict && !own.shortest {
+    let longer = !own.shortest;
+    if strict && longer {
         return Err(Refusal::NotShortest);
     }
     Ok(own)

@@ -16,7 +16,10 @@ impl<'a> fmt::Display for Hex<'a> {
             return write!(f, " none");
         }
         for byte in self.0 {
-            write!(f, " {byte:02x}")?;
+            let [high, low] = readable::hex(*byte);
+            f.write_char(' ')?;
+            f.write_char(high as char)?;
+            f.write_char(low as char)?;
         }
         Ok(())
     }

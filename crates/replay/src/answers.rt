@@ -80,7 +80,7 @@ fn work_area() -> [u8; append::AREA + BEHIND] {
 }
 
 fn is_all(part: &[u8], byte: u8) -> bool {
-    part.iter().all(|own| *own == byte)
+    part.iter().fold(0, |others, own| others | (*own ^ byte)) == 0
 }
 
 // Asks in the front of an area, as long as the record says. An area that is long enough is handed back as zeros, and all other bytes

@@ -101,8 +101,8 @@ fn both(got: Result<Own, Refusal>, there: Result<Own, Refusal>) -> Option<Sides>
     })
 }
 
-// An integer. It is taken here, as in `read_item::int_bytes` and for the same reason: that has a single caller, and so is part
-// of it. Two signed numbers are the same if they are so before they are unzigzagged.
+// An integer. It is taken by the leaves' functions and not by `read_item::int_bytes`: two signed numbers are the same if they are
+// so before they are unzigzagged.
 fn take_int(number: u8, part: &[u8], other: &[u8]) -> Option<Sides>
     requires { IsInt number }
     ensures { result ≡ taken_both (kind_of number) part.now other.now (head (kind_of number) 0 0 part.now) (head (kind_of number) 0 0 other.now) }
@@ -157,8 +157,7 @@ pub fn take_leaf(number: u8, part: &[u8], place: usize, other: &[u8], there: usi
 
 // ---- an item that has children
 
-// The own bytes of an item that has children: so many, of which a variant's number names one. It is taken here, as in
-// `read_item::head_bytes` and for the same reason as an integer.
+// The own bytes of an item that has children: so many, of which a variant's number names one, as `read_item` takes them.
 fn inner_bytes(number: u8, count: usize, part: &[u8], place: usize) -> Result<Own, Refusal>
     requires { IsInner number }
     ensures { result ≡ head (kind_of number) count place part.now }
@@ -176,7 +175,7 @@ fn inner_bytes(number: u8, count: usize, part: &[u8], place: usize) -> Result<Ow
     }
 }
 
-// Sides sides' own bytes at `place` of the first message and at `there` of the second, and what follows them.
+// Both sides' own bytes at `place` of the first message and at `there` of the second, and what follows them.
 pub fn enter(
     table: &[u8],
     l: Layout,

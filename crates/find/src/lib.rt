@@ -112,8 +112,7 @@ fn skim_front(
     }
 }
 
-// The own bytes of an item that a path goes through. It isn't `read_item::enter`: a second caller would cost the reader that
-// function's inlining.
+// The own bytes of an item that a path goes through, an option or a struct. It isn't `read_item::enter`, since no entry is made.
 fn own_bytes(number: u8, part: &[u8]) -> Result<Own, Refusal>
     requires { is_passed (kind_of number) ≡ true }
     ensures { Owns number part.now result }

@@ -34,7 +34,9 @@ pub fn known(count: usize, got: Result<Own, Refusal>) -> Result<Own, Refusal>
     Err(Refusal::Variant)
 }
 
-// The own bytes of an item that has children: so many, of which a variant's number names one.
+// The own bytes of an item that has children: so many, of which a variant's number names one. It is inlined, since a call costs
+// more than most of them.
+#[inline(always)]
 fn head_bytes(number: u8, count: usize, part: &[u8], place: usize) -> Result<Own, Refusal>
     requires { IsInner number }
     ensures { result ≡ head_of (kind_of number) count place part.now }
